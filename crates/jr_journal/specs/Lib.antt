@@ -1,2 +1,10 @@
+pub mod Along
 pub mod Event
+pub mod Finish
+pub mod History
+pub mod Next
 pub mod Program
+pub mod Report
+pub mod Right
+pub mod Verdicts
+pub mod World

@@ -1,0 +1,130 @@
+-- The text of a report, line by line.
+use Rattle.std.specs.Prelude.{ℕ, ◌+◌, true, false, List, [], ◌∷◌, ◌++◌, length, flat_map, codes, decimal}
+use Rattle.std.specs.Fmt.{signed_decimal}
+use Rattle.jr_base.specs.Deed.{Deed, Print, End}
+use Rattle.jr_base.specs.declared.number.GuestNo.{GuestNo}
+use Rattle.jr_base.specs.declared.action.PrintPart.{PrintPart}
+use Rattle.jr_base.specs.declared.action.PrintPart.TheVariants.{Text, Val}
+use Rattle.jr_base.specs.declared.action.EndHow.TheVariants as ends
+use Rattle.jr_base.specs.declared.value.Value.{Value}
+use Rattle.jr_base.specs.declared.value.Value.TheVariants as values
+use Rattle.jr_base.specs.declared.finish.Finish.{Finish}
+use Rattle.jr_base.specs.declared.finish.Finish.TheVariants.{Finished, Deadlock, Budget, Limit, Memory}
+use Rattle.jr_base.specs.declared.finish.Fault.{Fault}
+use Rattle.jr_base.specs.declared.finish.Fault.TheVariants as faults
+use Rattle.jr_base.specs.declared.finish.LimitKind.{LimitKind}
+use Rattle.jr_base.specs.declared.finish.LimitKind.TheVariants as kinds
+use Rattle.jr_base.specs.declared.finish.Verdict.{Verdict}
+use Rattle.jr_base.specs.declared.finish.Verdict.TheVariants as verdicts
+use Rattle.jr_journal.specs.Event.{Event, Step, Judged}
+use Rattle.jr_journal.specs.Program.{Program}
+use Rattle.jr_journal.specs.History.{world_after, step_count}
+
+-- what println writes of a value: no program prints a reference
+abbrev pub value_text : Value → List ℕ
+value_text (values.Int n) = signed_decimal n
+value_text (values.Bool true) = codes "true"
+value_text (values.Bool false) = codes "false"
+value_text values.Null = []
+value_text (values.Ref object) = []
+
+-- what println writes of a part. A program that can be run yet has no string literal.
+abbrev pub part_text : Program → PrintPart → List ℕ
+part_text program (Val value) = value_text value
+part_text program (Text text) = []
+
+abbrev pub out_line : Program → GuestNo → List PrintPart → List ℕ
+out_line program g parts = codes "out " ++ decimal g.0 ++ codes ": " ++ flat_map (part_text program) parts
+
+-- a line for each Print, in the order of steps
+abbrev pub out_lines_of : Program → GuestNo → Deed → List (List ℕ)
+out_lines_of program g (Print parts) = out_line program g parts ∷ []
+out_lines_of program g _ = []
+
+abbrev pub out_lines : Program → List Event → List (List ℕ)
+out_lines program [] = []
+out_lines program (Step g deed reply ∷ h) = out_lines_of program g deed ++ out_lines program h
+out_lines program (Judged step place value ∷ h) = out_lines program h
+
+-- A line for each verdict other than True, by step and place. A program that can be run yet has no clause.
+abbrev pub violation_lines : Program → List Event → List (List ℕ)
+violation_lines program h = []
+
+abbrev pub fault_name : Fault → List ℕ
+fault_name faults.Exception = codes "Exception"
+fault_name faults.RuntimeException = codes "RuntimeException"
+fault_name faults.InterruptedException = codes "InterruptedException"
+fault_name faults.ArithmeticException = codes "ArithmeticException"
+fault_name faults.NullPointerException = codes "NullPointerException"
+fault_name faults.NegativeArraySizeException = codes "NegativeArraySizeException"
+fault_name faults.IllegalMonitorStateException = codes "IllegalMonitorStateException"
+fault_name faults.IndexOutOfBoundsException = codes "IndexOutOfBoundsException"
+fault_name faults.IllegalArgumentException = codes "IllegalArgumentException"
+fault_name faults.ArrayIndexOutOfBoundsException = codes "ArrayIndexOutOfBoundsException"
+fault_name faults.IllegalThreadStateException = codes "IllegalThreadStateException"
+
+abbrev pub uncaught_line : Fault → GuestNo → ℕ → List ℕ
+uncaught_line fault g k =
+    codes "uncaught " ++ fault_name fault ++ codes ", guest " ++ decimal g.0 ++ codes ", step " ++ decimal k
+
+-- a line for each guest that an exception ended, in the order of steps; k is the number of the next step
+abbrev pub uncaught_lines_of : GuestNo → Deed → ℕ → List (List ℕ)
+uncaught_lines_of g (End (ends.Uncaught fault)) k = uncaught_line fault g k ∷ []
+uncaught_lines_of g _ k = []
+
+abbrev pub uncaught_lines : ℕ → List Event → List (List ℕ)
+uncaught_lines k [] = []
+uncaught_lines k (Step g deed reply ∷ h) = uncaught_lines_of g deed k ++ uncaught_lines (k + 1) h
+uncaught_lines k (Judged step place value ∷ h) = uncaught_lines k h
+
+abbrev pub kind_text : LimitKind → List ℕ
+kind_text kinds.Guests = codes "guests"
+kind_text kinds.Frames = codes "frames"
+kind_text kinds.Objects = codes "objects"
+kind_text kinds.Cells = codes "cells"
+kind_text kinds.Held = codes "held"
+
+abbrev pub finish_line : Finish → List ℕ
+finish_line Finished = codes "finish Finished"
+finish_line Deadlock = codes "finish Deadlock"
+finish_line (Budget n) = codes "finish Budget " ++ decimal n
+finish_line (Limit kind g count) =
+    codes "finish Limit " ++ kind_text kind ++ codes ", guest " ++ decimal g.0 ++ codes ", count " ++ decimal count
+finish_line Memory = codes "finish Memory"
+
+-- how many verdicts there are
+abbrev pub verdict_count : List Event → ℕ
+verdict_count [] = 0
+verdict_count (Step g deed reply ∷ h) = verdict_count h
+verdict_count (Judged step place value ∷ h) = 1 + verdict_count h
+
+-- a verdict other than True is one violation
+abbrev pub violations_in : Verdict → ℕ
+violations_in verdicts.True = 0
+violations_in _ = 1
+
+abbrev pub violation_count : List Event → ℕ
+violation_count [] = 0
+violation_count (Step g deed reply ∷ h) = violation_count h
+violation_count (Judged step place value ∷ h) = violations_in value + violation_count h
+
+-- how many guests an exception ended
+abbrev pub uncaught_count : List Event → ℕ
+uncaught_count h = length (uncaught_lines 0 h)
+
+abbrev pub summary_line : Program → List Event → List ℕ
+summary_line program h =
+    codes "steps " ++ decimal (step_count h)
+    ++ codes ", guests " ++ decimal (length (world_after program h).guests)
+    ++ codes ", verdicts " ++ decimal (verdict_count h)
+    ++ codes ", violations " ++ decimal (violation_count h)
+    ++ codes ", uncaught " ++ decimal (uncaught_count h)
+
+-- the lines of a report, in order
+abbrev pub report : Program → List Event → Finish → List (List ℕ)
+report program h finish =
+    out_lines program h ++ violation_lines program h ++ uncaught_lines 0 h ++ finish_line finish ∷ summary_line program h ∷ []
+
+-- lines as bytes: each is ended by a line feed
+abbrev pub bytes_of_lines : List (List ℕ) → List ℕ
+bytes_of_lines lines = flat_map (λ line. line ++ 10 ∷ []) lines
