@@ -1,2 +1,3 @@
 pub mod Deed
+pub mod Rising
 pub mod Spare

@@ -28,7 +28,7 @@ pub struct ClauseId(pub u32);
 pub struct TextId(pub u32);
 
 /// An object. The class objects have the numbers from 1 on, and each object that is made the next one.
-#[derive(Clone, Copy, Debug, PartialEq, Eq, PartialOrd, Ord)]
+#[derive(Clone, Copy, Debug, Default, PartialEq, Eq, PartialOrd, Ord)]
 pub struct ObjId(pub u32);
 
 /// A thread of the program that runs, from 1 in the order in which they are started: main is 1.
