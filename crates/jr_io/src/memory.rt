@@ -1,7 +1,7 @@
 //! A source and a sink over memory, some of whose calls fail: for tests, and for texts that are there
 //! already.
 
-ghost use Rattle.std.specs.Prelude.{◌≡◌, ◌==◌, ℕ, ◌+◌, ◌-◌, ◌≤◌, [], ◌++◌, false, Some, min, length, take, drop, vec_capacity};
+ghost use Rattle.std.specs.Prelude.{◌≡◌, ◌==◌, ◌+◌, ◌-◌, ◌≤◌, [], ◌++◌, false, Some, min, length, take, drop, vec_capacity};
 ghost use Rattle.std.specs.List.{list_any};
 ghost use Rattle.jr_io.specs.Memory.{read_answer, after_read, bytes_given, write_answer, after_write};
 ghost use Rattle.jr_io.specs.Reads.{GivesAtMost, TakesBytes, taken_by, answers_end, CountsReadFault};
@@ -11,7 +11,7 @@ use crate::sink::{Sink, WriteOut};
 use crate::source::{ReadOut, Source};
 use std::marker::Model;
 
-/// A source that gives the bytes of a list.
+/// A source of bytes in memory. Contracts see it as a `Feed` of `specs/Memory.antt`.
 #[derive(Debug, Drop)]
 pub struct MemSource {
     bytes: Vec<u8>,
@@ -93,7 +93,7 @@ impl Source for MemSource {
     }
 }
 
-/// A sink that keeps what is written.
+/// A sink that keeps what is written. Contracts see it as a `Store` of `specs/Memory.antt`.
 #[derive(Debug, Drop)]
 pub struct MemSink {
     store: Vec<u8>,

@@ -12,7 +12,7 @@ pub enum WriteOut {
     Failed,
 }
 
-/// What bytes are written to.
+/// What bytes are written to. A fault is counted where a write fails, and nowhere else.
 pub trait Sink {
     // The bytes written so far, where the sink tells them.
     ghost written: { Self → Option (List ℕ) };

@@ -1,7 +1,6 @@
 //! Sources of bytes, and a source read to its end.
 
-ghost use Rattle.std.specs.Prelude.{◌≡◌, ◌≢◌, ◌↔◌, ℕ, ◌+◌, ◌<◌, ◌≤◌, Bool, List, Option, length, is_ok, OnOk, IfOk, IsErrOf, IfSome, vec_len};
-ghost use Rattle.std.specs.Io.KnownBytes.{IsAtEnd};
+ghost use Rattle.std.specs.Prelude.{◌≡◌, ◌≢◌, ◌↔◌, ℕ, ◌+◌, ◌<◌, ◌≤◌, Bool, List, Option, length, is_ok, IfOk, IsErrOf, IfSome, vec_len};
 ghost use Rattle.jr_io.specs.Faults.{Rose};
 ghost use Rattle.jr_io.specs.Reads.{GivesAtMost, TakesBytes, taken_by, answers_end, CountsReadFault, TookFront, GaveAll};
 
@@ -17,7 +16,7 @@ pub enum ReadOut {
     Failed,
 }
 
-/// What bytes are read from.
+/// What bytes are read from. A fault is counted where a read fails, and nowhere else.
 pub trait Source {
     // The bytes that are left, where the source tells them.
     ghost left: { Self → Option (List ℕ) };

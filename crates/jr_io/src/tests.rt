@@ -112,6 +112,7 @@ fn writes_to_std(rt: HostRuntime) -> Result<(), Fail> {
     use Piece::{Whole, WriteFault};
     for (length, failing, piece, finish, handed_on) in [
         (20, 0, Whole, Whole, 20),
+        // What a failed finish leaves goes out as the sink is dropped.
         (20, 2, Whole, WriteFault, 20),
         (20_000, 0, Whole, Whole, 20_000),
         (20_000, 3, WriteFault, Whole, 14),
