@@ -33,11 +33,16 @@ run = made (Call (main_of seven) None []) ∷ made (Print (Val (Int (pos 7)) ∷
 -- they make a legal history
 run-legal : IsLegal seven 200000 run
 unfolding run made seven main_guest
-run-legal =
-    (record { live = refl; next = refl; ready = refl; answer = refl; within_budget = lit< tt },
-    (record { live = refl; next = refl; ready = refl; answer = refl; within_budget = lit< tt },
-    (record { live = refl; next = refl; ready = refl; answer = refl; within_budget = lit< tt },
-    (record { live = refl; next = refl; ready = refl; answer = refl; within_budget = lit< tt }, tt))))
+run-legal = (
+  record { live = refl; next = refl; ready = refl; answer = refl; within_budget = lit< tt },
+  (
+    record { live = refl; next = refl; ready = refl; answer = refl; within_budget = lit< tt },
+    (
+      record { live = refl; next = refl; ready = refl; answer = refl; within_budget = lit< tt },
+      (record { live = refl; next = refl; ready = refl; answer = refl; within_budget = lit< tt }, tt),
+    ),
+  ),
+)
 
 -- after them the guest has ended
 run-ends : next_of seven run main_guest ≡ Ended

@@ -1,5 +1,5 @@
 -- Histories: what the entries of a journal say of the world, and which histories are legal.
-use Rattle.std.specs.Prelude.{◌≡◌, ◌==◌, ◌+◌, ◌<◌, ℕ, cond, IsTrue, List, [], ◌∷◌, Option, None}
+use Rattle.std.specs.Prelude.{◌≡◌, ◌==◌, ◌<◌, ℕ, cond, IsTrue, List, [], ◌∷◌, Option, None, sum_by}
 use Rattle.std.specs.Option.{option_map_or}
 use Rattle.jr_base.specs.Deed.{Deed}
 use Rattle.jr_base.specs.declared.number.GuestNo.{GuestNo}
@@ -27,11 +27,14 @@ replies_of g [] = []
 replies_of g (Step other deed reply ∷ h) = cond (other.0 == g.0) (reply ∷ replies_of g h) (replies_of g h)
 replies_of g (Judged step place value ∷ h) = replies_of g h
 
+-- how many steps an entry is
+abbrev pub steps_in : Event → ℕ
+steps_in (Step g deed reply) = 1
+steps_in (Judged step place value) = 0
+
 -- how many steps were made
 abbrev pub step_count : List Event → ℕ
-step_count [] = 0
-step_count (Step g deed reply ∷ h) = 1 + step_count h
-step_count (Judged step place value ∷ h) = step_count h
+step_count h = sum_by steps_in h
 
 -- what a guest was started with
 abbrev pub body_of : World → GuestNo → Option Body

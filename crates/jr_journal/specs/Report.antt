@@ -1,7 +1,7 @@
 -- The text of a report, line by line.
-use Rattle.std.specs.Prelude.{ℕ, ◌+◌, true, false, List, [], ◌∷◌, ◌++◌, length, flat_map, codes, decimal}
+use Rattle.std.specs.Prelude.{ℕ, ◌+◌, true, false, List, [], ◌∷◌, ◌++◌, length, flat_map, codes, decimal, sum_by}
 use Rattle.std.specs.Fmt.{signed_decimal}
-use Rattle.jr_base.specs.Deed.{Deed, Print, End}
+use Rattle.jr_base.specs.Deed.{Print, End}
 use Rattle.jr_base.specs.declared.number.GuestNo.{GuestNo}
 use Rattle.jr_base.specs.declared.action.PrintPart.{PrintPart}
 use Rattle.jr_base.specs.declared.action.PrintPart.TheVariants.{Text, Val}
@@ -14,11 +14,10 @@ use Rattle.jr_base.specs.declared.finish.Fault.{Fault}
 use Rattle.jr_base.specs.declared.finish.Fault.TheVariants as faults
 use Rattle.jr_base.specs.declared.finish.LimitKind.{LimitKind}
 use Rattle.jr_base.specs.declared.finish.LimitKind.TheVariants as kinds
-use Rattle.jr_base.specs.declared.finish.Verdict.{Verdict}
 use Rattle.jr_base.specs.declared.finish.Verdict.TheVariants as verdicts
 use Rattle.jr_journal.specs.Event.{Event, Step, Judged}
 use Rattle.jr_journal.specs.Program.{Program}
-use Rattle.jr_journal.specs.History.{world_after, step_count}
+use Rattle.jr_journal.specs.History.{world_after, step_count, steps_in}
 
 -- what println writes of a value: no program prints a reference
 abbrev pub value_text : Value → List ℕ
@@ -29,22 +28,21 @@ value_text values.Null = []
 value_text (values.Ref object) = []
 
 -- what println writes of a part. A program that can be run yet has no string literal.
-abbrev pub part_text : Program → PrintPart → List ℕ
-part_text program (Val value) = value_text value
-part_text program (Text text) = []
+abbrev pub part_text : PrintPart → List ℕ
+part_text (Val value) = value_text value
+part_text (Text text) = []
 
-abbrev pub out_line : Program → GuestNo → List PrintPart → List ℕ
-out_line program g parts = codes "out " ++ decimal g.0 ++ codes ": " ++ flat_map (part_text program) parts
+abbrev pub out_line : GuestNo → List PrintPart → List ℕ
+out_line g parts = codes "out " ++ decimal g.0 ++ codes ": " ++ flat_map part_text parts
 
--- a line for each Print, in the order of steps
-abbrev pub out_lines_of : Program → GuestNo → Deed → List (List ℕ)
-out_lines_of program g (Print parts) = out_line program g parts ∷ []
-out_lines_of program g _ = []
+-- a line for each Print
+abbrev pub out_lines_of : Event → List (List ℕ)
+out_lines_of (Step g (Print parts) reply) = out_line g parts ∷ []
+out_lines_of _ = []
 
-abbrev pub out_lines : Program → List Event → List (List ℕ)
-out_lines program [] = []
-out_lines program (Step g deed reply ∷ h) = out_lines_of program g deed ++ out_lines program h
-out_lines program (Judged step place value ∷ h) = out_lines program h
+-- in the order of steps
+abbrev pub out_lines : List Event → List (List ℕ)
+out_lines h = flat_map out_lines_of h
 
 -- A line for each verdict other than True, by step and place. A program that can be run yet has no clause.
 abbrev pub violation_lines : Program → List Event → List (List ℕ)
@@ -67,15 +65,15 @@ abbrev pub uncaught_line : Fault → GuestNo → ℕ → List ℕ
 uncaught_line fault g k =
     codes "uncaught " ++ fault_name fault ++ codes ", guest " ++ decimal g.0 ++ codes ", step " ++ decimal k
 
--- a line for each guest that an exception ended, in the order of steps; k is the number of the next step
-abbrev pub uncaught_lines_of : GuestNo → Deed → ℕ → List (List ℕ)
-uncaught_lines_of g (End (ends.Uncaught fault)) k = uncaught_line fault g k ∷ []
-uncaught_lines_of g _ k = []
+-- a line for each guest that an exception ended; k is the number of the step
+abbrev pub uncaught_lines_of : ℕ → Event → List (List ℕ)
+uncaught_lines_of k (Step g (End (ends.Uncaught fault)) reply) = uncaught_line fault g k ∷ []
+uncaught_lines_of k _ = []
 
+-- in the order of steps; k is the number of the next one
 abbrev pub uncaught_lines : ℕ → List Event → List (List ℕ)
 uncaught_lines k [] = []
-uncaught_lines k (Step g deed reply ∷ h) = uncaught_lines_of g deed k ++ uncaught_lines (k + 1) h
-uncaught_lines k (Judged step place value ∷ h) = uncaught_lines k h
+uncaught_lines k (e ∷ h) = uncaught_lines_of k e ++ uncaught_lines (k + steps_in e) h
 
 abbrev pub kind_text : LimitKind → List ℕ
 kind_text kinds.Guests = codes "guests"
@@ -92,38 +90,38 @@ finish_line (Limit kind g count) =
     codes "finish Limit " ++ kind_text kind ++ codes ", guest " ++ decimal g.0 ++ codes ", count " ++ decimal count
 finish_line Memory = codes "finish Memory"
 
--- how many verdicts there are
-abbrev pub verdict_count : List Event → ℕ
-verdict_count [] = 0
-verdict_count (Step g deed reply ∷ h) = verdict_count h
-verdict_count (Judged step place value ∷ h) = 1 + verdict_count h
+abbrev pub verdicts_in : Event → ℕ
+verdicts_in (Step g deed reply) = 0
+verdicts_in (Judged step place value) = 1
 
--- a verdict other than True is one violation
-abbrev pub violations_in : Verdict → ℕ
-violations_in verdicts.True = 0
-violations_in _ = 1
+-- a verdict other than True is a violation
+abbrev pub violations_in : Event → ℕ
+violations_in (Step g deed reply) = 0
+violations_in (Judged step place verdicts.True) = 0
+violations_in (Judged step place _) = 1
 
-abbrev pub violation_count : List Event → ℕ
-violation_count [] = 0
-violation_count (Step g deed reply ∷ h) = violation_count h
-violation_count (Judged step place value ∷ h) = violations_in value + violation_count h
+-- whether an exception ended a guest
+abbrev pub uncaught_in : Event → ℕ
+uncaught_in (Step g (End (ends.Uncaught fault)) reply) = 1
+uncaught_in _ = 0
 
--- how many guests an exception ended
-abbrev pub uncaught_count : List Event → ℕ
-uncaught_count h = length (uncaught_lines 0 h)
+abbrev pub summary_text : (steps guests verdicts violations uncaught : ℕ) → List ℕ
+summary_text steps guests verdicts violations uncaught =
+    codes "steps " ++ decimal steps
+    ++ codes ", guests " ++ decimal guests
+    ++ codes ", verdicts " ++ decimal verdicts
+    ++ codes ", violations " ++ decimal violations
+    ++ codes ", uncaught " ++ decimal uncaught
 
+-- what was counted
 abbrev pub summary_line : Program → List Event → List ℕ
 summary_line program h =
-    codes "steps " ++ decimal (step_count h)
-    ++ codes ", guests " ++ decimal (length (world_after program h).guests)
-    ++ codes ", verdicts " ++ decimal (verdict_count h)
-    ++ codes ", violations " ++ decimal (violation_count h)
-    ++ codes ", uncaught " ++ decimal (uncaught_count h)
+    summary_text (step_count h) (length (world_after program h).guests) (sum_by verdicts_in h) (sum_by violations_in h) (sum_by uncaught_in h)
 
 -- the lines of a report, in order
 abbrev pub report : Program → List Event → Finish → List (List ℕ)
 report program h finish =
-    out_lines program h ++ violation_lines program h ++ uncaught_lines 0 h ++ finish_line finish ∷ summary_line program h ∷ []
+    out_lines h ++ violation_lines program h ++ uncaught_lines 0 h ++ finish_line finish ∷ summary_line program h ∷ []
 
 -- lines as bytes: each is ended by a line feed
 abbrev pub bytes_of_lines : List (List ℕ) → List ℕ

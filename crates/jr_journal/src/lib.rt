@@ -5,6 +5,7 @@
 #![tactic(auto)]
 
 pub mod journal;
+pub mod laws;
 pub mod tree;
 
 pub use journal::{Entry, Journal, Opening, RunRecord};

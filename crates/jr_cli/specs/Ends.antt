@@ -1,0 +1,43 @@
+-- How a call ends: what came of it has its cause, and is what was told.
+use Rattle.std.specs.Prelude.{◌≡◌, ◌==◌, ◌⊎◌, ℕ, cond, List, Option, None, IsSomeAnd}
+use Rattle.jr_io.specs.declared.sink.Piece.TheVariants.{Whole, WriteFault}
+use Rattle.jr_io.specs.Writes.{WritesPiece}
+use Rattle.jr_journal.specs.Program.{Program}
+use Rattle.jr_cli.specs.declared.words.Command.{Command}
+use Rattle.jr_cli.specs.declared.outcome.Outcome.{Outcome}
+use Rattle.jr_cli.specs.declared.ended.Ended.{Ended}
+use Rattle.jr_cli.specs.Causes.{Reading, HasCause, RefusesTooLong, CountsReading}
+use Rattle.jr_cli.specs.Texts.{Tells}
+
+-- a count before and after a call
+pub record Counted : Type 0 where
+  pub before : ℕ
+  pub now : ℕ
+
+-- the bytes that were written before and after a call, where the sink tells them
+pub record Writing : Type 0 where
+  pub before : Option (List ℕ)
+  pub now : Option (List ℕ)
+
+pub record Ends (command : Option Command) (reading : Reading) (read_faults : Counted) (writing : Writing) (write_faults : Counted) (ended : Ended) : Type 0 where
+  pub outcome : Outcome
+  pub cause : HasCause command reading outcome
+  pub too_long : RefusesTooLong reading outcome
+  pub counted : CountsReading read_faults.before read_faults.now outcome
+  pub told : Tells writing.before writing.now write_faults.before write_faults.now outcome ended
+
+-- the status is that one, unless a write failed
+abbrev pub IsStatus : ℕ → ℕ → Type 0
+IsStatus status expected = (status ≡ expected) ⊎ (status ≡ 5)
+
+-- the text was written: whole, or where the status is 5 up to a fault
+abbrev pub IsWritten : Writing → ℕ → List ℕ → Type 0
+IsWritten writing status text = WritesPiece writing.before writing.now (cond (status == 5) WriteFault Whole) text
+
+-- there was no memory for a run to begin
+abbrev pub HadNoMemory : Ended → Type 0
+HadNoMemory ended = (ended.run ≡ None) × (ended.refusal ≡ None) × IsStatus ended.status 7
+
+-- the run is one of that program
+abbrev pub Runs : Ended → Program → Type 0
+Runs ended program = IsSomeAnd ended.run (λ run. run.opening.unit ≡ program)

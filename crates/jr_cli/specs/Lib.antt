@@ -1,0 +1,10 @@
+pub mod Causes
+pub mod Command
+pub mod Ends
+pub mod Fits
+pub mod Reached
+pub mod Reading
+pub mod Reads
+pub mod Spelling
+pub mod Texts
+pub mod Walk

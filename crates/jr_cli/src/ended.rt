@@ -1,0 +1,133 @@
+//! How a call ends, and what it writes.
+
+ghost use Rattle.std.specs.Prelude.{◌≡◌, ◌≤◌};
+ghost use Rattle.jr_io.specs.Writes.{WritesPiece, CountsPieceFault};
+ghost use Rattle.jr_journal.specs.Right.{IsRightRecord};
+ghost use Rattle.jr_cli.specs.Texts.{IsTellable, text_of, refusal_text, status_of, run_status, Tells};
+
+use crate::outcome::Outcome;
+use crate::report::{count_all, write_report};
+use jr_base::{Finish, Refusal};
+use jr_io::{Piece, Sink, write_piece};
+use jr_journal::RunRecord;
+
+/// How a call ended.
+#[derive(Debug, Drop)]
+pub struct Ended {
+    /// From 0 to 9, as `docs/OUTPUT.md` lists them.
+    pub status: u8,
+    /// Why the source was refused, if it was.
+    pub refusal: Option<Refusal>,
+    /// The run, if there was one.
+    pub run: Option<RunRecord>,
+}
+
+/// What a status says.
+#[derive(Clone, Copy)]
+enum Status {
+    Clean = 0,
+    Violated = 1,
+    Usage = 2,
+    Refused = 3,
+    ReadFault = 4,
+    WriteFault = 5,
+    Budget = 6,
+    Memory = 7,
+    Deadlock = 8,
+    Limit = 9,
+}
+
+/// What is written where the words are no command.
+const USAGE: &str = "usage: jmlrac run --serial 0 < SOURCE\n";
+
+/// Writes what came of a call, and says how it ended. A write that failed goes before all else.
+pub fn tell<K: Sink>(outcome: Outcome, sink: &mut K) -> Ended
+    requires { IsTellable outcome }
+    ensures { Tells (K.written sink.old) (K.written sink.new) (K.faults sink.old) (K.faults sink.new) outcome result }
+{
+    let status = match write_outcome(&outcome, sink) {
+        Piece::Whole => status_of_outcome(&outcome),
+        Piece::WriteFault => Status::WriteFault as u8,
+    };
+    match outcome {
+        Outcome::Refused(refusal) => Ended {
+            status,
+            refusal: Some(refusal),
+            run: None,
+        },
+        Outcome::Ran(run) => Ended {
+            status,
+            refusal: None,
+            run: Some(run),
+        },
+        Outcome::Usage | Outcome::ReadFault | Outcome::OutOfMemory => Ended {
+            status,
+            refusal: None,
+            run: None,
+        },
+    }
+}
+
+// Writes the text of what came of a call.
+fn write_outcome<K: Sink>(outcome: &Outcome, sink: &mut K) -> Piece
+    requires { IsTellable outcome.now }
+    ensures bytes { WritesPiece (K.written sink.old) (K.written sink.new) result (text_of outcome.now) }
+    ensures never_falls { K.faults sink.old ≤ K.faults sink.new }
+    ensures faults { CountsPieceFault (K.faults sink.old) (K.faults sink.new) result }
+{
+    match outcome {
+        Outcome::Usage => write_piece(sink, USAGE.as_bytes()),
+        Outcome::ReadFault => write_piece(sink, b"read fault\n"),
+        Outcome::Refused(refusal) => write_piece(sink, text_of_refusal(*refusal).as_bytes()),
+        Outcome::OutOfMemory => write_piece(sink, b"out of memory\n"),
+        Outcome::Ran(run) => write_report(run, sink),
+    }
+}
+
+// The line of a refusal. No other comes of a source yet.
+fn text_of_refusal(refusal: Refusal) -> &'static str
+    requires { IsTellable (Outcome.Refused refusal) }
+    ensures { result.now ≡ refusal_text refusal }
+{
+    match refusal {
+        Refusal::TooLong => "refused TooLong\n",
+        Refusal::NoMain => "refused NoMain\n",
+        Refusal::NotBuilt => "refused NotBuilt\n",
+        _ => unreachable!(),
+    }
+}
+
+// The status of what came of a call, where all was written.
+fn status_of_outcome(outcome: &Outcome) -> u8
+    ensures { result ≡ status_of outcome.now }
+{
+    let status = match outcome {
+        Outcome::Usage => Status::Usage,
+        Outcome::ReadFault => Status::ReadFault,
+        Outcome::Refused(_) => Status::Refused,
+        Outcome::OutOfMemory => Status::Memory,
+        Outcome::Ran(run) => return status_of_run(run),
+    };
+    status as u8
+}
+
+// The status of a run: its finish, and where it finished, whether all went well.
+fn status_of_run(run: &RunRecord) -> u8
+    ensures { result ≡ run_status run.now.finish run.now.journal.entries }
+{
+    let status = match run.finish {
+        Finish::Finished => {
+            let count = count_all(&run.journal);
+            if count.violations == 0 && count.uncaught == 0 {
+                Status::Clean
+            } else {
+                Status::Violated
+            }
+        }
+        Finish::Deadlock => Status::Deadlock,
+        Finish::Budget(_) => Status::Budget,
+        Finish::Limit { .. } => Status::Limit,
+        Finish::Memory => Status::Memory,
+    };
+    status as u8
+}

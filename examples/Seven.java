@@ -1,0 +1,5 @@
+class Seven {
+  public static void main(String[] args) {
+    System.out.println(7);
+  }
+}
