@@ -1,0 +1,4 @@
+pub mod Views
+pub mod Points
+pub mod Tellings
+pub mod Passes

@@ -1,0 +1,16 @@
+//! A turn: a lock that workers take in the order in which they asked for it, round a value that stands
+//! for a list which only grows. Its one promise: who takes the turn finds a value whose list begins with
+//! all that this worker has seen before, and has just the steps of this worker that it counted, in order.
+//! The rule that each atomic step keeps stands in `specs/Points.antt`, what a worker knows in
+//! `specs/Views.antt`.
+#![tactic(auto)]
+
+pub mod annal;
+mod law;
+mod lock;
+pub mod pass;
+pub mod turn;
+pub mod view;
+
+#[cfg(test)]
+mod tests;
