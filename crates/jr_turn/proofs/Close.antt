@@ -56,7 +56,7 @@ module _ {V O E T : Type 0} (opens : V → O) (entries : V → List E) (in_hand 
     words = refl;
     homes = refl;
     one = record { value = λ y e. let is : x ≡ y = cc (e) in ap opens (sym is); each = each_one _ v (λ _. refl) };
-    two = record { value = λ y e. let is : x ≡ y = cc (e) in ap entries (sym is) ∙ nothing; each = each_one _ v (λ out. absurd (true≢false (sym out))) };
+    two = record { value = λ y e. let is : x ≡ y = cc (e) in ap entries (sym is) ∙ nothing; each = each_one _ v (λ out. absurd (true≢false (sym out))); flight = each_one _ v (λ e some. absurd (none_some e some)) };
     three = record { each = each_one _ v (λ _. (([], refl), omega arith)); counted = refl; short = omega arith };
     four = record { each = each_one _ v (λ _. record { number = refl; mine = refl }); first = each_one _ v (λ _. record { live = refl; made = refl; joined = refl }); none_above = λ n _. refl };
     five = record {

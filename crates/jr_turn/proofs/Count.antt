@@ -40,6 +40,7 @@ module _ {V O E T : Type 0} (h : Inner V O E) (guest : E → Option ℕ) (views 
   count_two entries five hold r = let t = (five.turn i v at).hold hold in record {
     value = λ y here. absurd (none_some y (sym t.1 ∙ here));
     each = each_set _ _ views i w r.each (λ _. ap (λ l. l ++ e ∷ []) (r.each i v at hold)) (λ j u apart there _ holds. absurd (apart (alone h views i j v u five at t.0 there holds)));
+    flight = each_set _ _ views i w r.flight (λ e' some. let same : e ≡ e' = cc (some) in (v.seen, ap (λ x. v.seen ++ x ∷ []) same)) (λ j u _ _ k. k);
   }
 
   count_three : v.seen ≡ h.journal → length h.journal + 1 < 2 ^ 63 → Three h views → Three (longer_by h e) (set views i w)

@@ -26,7 +26,7 @@ module _ {V O E T : Type 0} (h : Inner V O E) (views : List (View O E T)) (i : �
   draw_one opening r = record { value = r.value; each = each_set _ _ views i w r.each (r.each i v at) (λ j u _ _ k. k) }
 
   draw_two : (entries : V → List E) → Two h entries views → Two (drawn_more h) entries (set views i w)
-  draw_two entries r = record { value = r.value; each = each_set _ _ views i w r.each (r.each i v at) (λ j u _ _ k. k) }
+  draw_two entries r = record { value = r.value; each = each_set _ _ views i w r.each (r.each i v at) (λ j u _ _ k. k); flight = each_set _ _ views i w r.flight (r.flight i v at) (λ j u _ _ k. k) }
 
   draw_three : Three h views → Three (drawn_more h) (set views i w)
   draw_three r = record { each = each_set _ _ views i w r.each (r.each i v at) (λ j u _ _ k. k); counted = r.counted; short = r.short }

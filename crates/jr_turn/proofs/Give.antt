@@ -31,6 +31,7 @@ module _ {V O E T : Type 0} (h : Inner V O E) (views : List (View O E T)) (i : �
   give_two entries hold same r = record {
     value = λ y e. let is : x ≡ y = cc (e) in ap entries (sym is) ∙ (same ∙ r.each i v at hold);
     each = each_set _ _ views i w r.each (λ out. absurd (true≢false (sym out))) (λ j u _ _ k. k);
+    flight = each_set _ _ views i w r.flight (λ e some. absurd (none_some e some)) (λ j u _ _ k. k);
   }
 
   give_three : Three h views → Three (given_back h x) (set views i w)

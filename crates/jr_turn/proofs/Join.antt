@@ -53,10 +53,14 @@ module _ {V O E T : Type 0} (h : Inner V O E) (views : List (View O E T)) (i o :
   join_one : (opening : V → O) → One h opening views → One h opening views'
   join_one opening r = record { value = r.value; each = each_two _ _ views i o w g r.each (r.each i v at) (λ q. absurd (true≢false q)) (λ j x _ _ _ k. k) }
 
-  join_two : (entries : V → List E) → Three h views → Two h entries views → Two h entries views'
-  join_two entries three r = record {
+  join_two : (entries : V → List E) → Three h views → Five h views → Two h entries views → Two h entries views'
+  join_two entries three five r = let whole : holding v ≡ true → longer v.seen u.seen ≡ h.journal = λ hold. longer_whole v.seen u.seen h.journal (r.each i v at hold) (three.each o u there alive).0 in record {
     value = r.value;
-    each = each_two _ _ views i o w g r.each (λ hold. longer_whole v.seen u.seen h.journal (r.each i v at hold) (three.each o u there alive).0) (λ q. absurd (true≢false (sym q))) (λ j x _ _ _ k. k);
+    each = each_two _ _ views i o w g r.each whole (λ q. absurd (true≢false (sym q))) (λ j x _ _ _ k. k);
+    flight = each_two _ _ views i o w g r.flight
+        (λ e some. let hold = (five.turn i v at).flight (ap is_some some) in let last = r.flight i v at e some in (last.0, whole hold ∙ sym (r.each i v at hold) ∙ last.1))
+        (λ e some. absurd (none_some e some))
+        (λ j x _ _ _ k. k);
   }
 
   join_three : Three h views → Three h views'
@@ -123,7 +127,7 @@ module _ {V O E T : Type 0} (opening : V → O) (entries : V → List E) (in_han
         words = r.words;
         homes = r.homes;
         one = join_one h s.views id other v u at there apart live alive idle opening r.one;
-        two = join_two h s.views id other v u at there apart live alive idle entries r.three r.two;
+        two = join_two h s.views id other v u at there apart live alive idle entries r.three r.five r.two;
         three = join_three h s.views id other v u at there apart live alive idle r.three;
         four = join_four h s.views id other v u at there apart live alive idle guest one r.four;
         five = join_five h s.views id other v u at there apart live alive idle r.five;

@@ -22,7 +22,7 @@ module _ {V O E T : Type 0} (h : Inner V O E) (views : List (View O E T)) (i : �
   look_one opening r = record { value = r.value; each = each_set _ _ views i w r.each (r.each i v at) (λ j u _ _ k. k) }
 
   look_two : (entries : V → List E) → Two h entries views → Two h entries (set views i w)
-  look_two entries r = record { value = r.value; each = each_set _ _ views i w r.each (r.each i v at) (λ j u _ _ k. k) }
+  look_two entries r = record { value = r.value; each = each_set _ _ views i w r.each (r.each i v at) (λ j u _ _ k. k); flight = each_set _ _ views i w r.flight (r.flight i v at) (λ j u _ _ k. k) }
 
   look_three : Three h views → Three h (set views i w)
   look_three r = record { each = each_set _ _ views i w r.each (λ live. ((r.each i v at live).0, le_refl h.count)) (λ j u _ _ k. k); counted = r.counted; short = r.short }

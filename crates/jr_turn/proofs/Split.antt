@@ -34,7 +34,11 @@ module _ {V O E T : Type 0} (h : Inner V O E) (views : List (View O E T)) (i : �
   split_one opening live r = record { value = r.value; each = each_grow _ _ views i w u r.each (r.each i v at) (λ _. r.each i v at live) (λ j x _ _ k. k) }
 
   split_two : (entries : V → List E) → Two h entries views → Two h entries views'
-  split_two entries r = record { value = r.value; each = each_grow _ _ views i w u r.each (r.each i v at) (λ out. absurd (true≢false (sym out))) (λ j x _ _ k. k) }
+  split_two entries r = record {
+    value = r.value;
+    each = each_grow _ _ views i w u r.each (r.each i v at) (λ out. absurd (true≢false (sym out))) (λ j x _ _ k. k);
+    flight = each_grow _ _ views i w u r.flight (r.flight i v at) (λ e some. absurd (none_some e some)) (λ j x _ _ k. k);
+  }
 
   split_three : v.spent ≡ false → Three h views → Three h views'
   split_three live r = record { each = each_grow _ _ views i w u r.each (r.each i v at) (λ _. ((r.each i v at live).0, omega arith)) (λ j x _ _ k. k); counted = r.counted; short = r.short }

@@ -28,8 +28,12 @@ module _ {V O E T : Type 0} (h : Inner V O E) (views : List (View O E T)) (i : �
   take_one : (opening : V → O) → One h opening views → One (taken_out h) opening (set views i w)
   take_one opening r = record { value = λ y e. absurd (none_some y e); each = each_set _ _ views i w r.each (r.each i v at) (λ j u _ _ k. k) }
 
-  take_two : (entries : V → List E) → es ≡ h.journal → Two h entries views → Two (taken_out h) entries (set views i w)
-  take_two entries same r = record { value = λ y e. absurd (none_some y e); each = each_set _ _ views i w r.each (λ _. same) (λ j u _ _ k. k) }
+  take_two : (entries : V → List E) → es ≡ h.journal → v.out ≡ None → Five h views → Two h entries views → Two (taken_out h) entries (set views i w)
+  take_two entries same idle five r = record {
+    value = λ y e. absurd (none_some y e);
+    each = each_set _ _ views i w r.each (λ _. same) (λ j u _ _ k. k);
+    flight = each_set _ _ views i w r.flight (λ e some. absurd (true≢false (sym ((five.turn i v at).flight (ap is_some some)) ∙ ap is_some idle))) (λ j u _ _ k. k);
+  }
 
   take_three : es ≡ h.journal → Three h views → Three (taken_out h) (set views i w)
   take_three same r = record { each = each_set _ _ views i w r.each (λ live. (([], sym same ∙ sym (append-nil es)), (r.each i v at live).1)) (λ j u _ _ k. k); counted = r.counted; short = r.short }
@@ -93,7 +97,7 @@ module _ {V O E T : Type 0} (opening : V → O) (entries : V → List E) (in_han
           words = set-get_or s.words 1 0 ∙ r.words;
           homes = ap (λ hs. set hs 0 none) r.homes;
           one = take_one h s.views id v at x place (entries x) (face x) (in_hand x) opening r.one;
-          two = take_two h s.views id v at x place (entries x) (face x) (in_hand x) entries tells r.two;
+          two = take_two h s.views id v at x place (entries x) (face x) (in_hand x) entries tells idle r.five r.two;
           three = take_three h s.views id v at x place (entries x) (face x) (in_hand x) tells r.three;
           four = four_same h (taken_out h) guest s.views id v w at refl refl refl refl refl refl r.four;
           five = take_five h s.views id v at x place (entries x) (face x) (in_hand x) (own ∙ ap Some (sym served)) calm r.five;

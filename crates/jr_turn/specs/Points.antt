@@ -66,13 +66,17 @@ module _ {V O E T : Type 0} (h : Inner V O E) where
     pub value : (x : V) → h.place ≡ Some x → opening x ≡ h.opening
     pub each : Each (λ j (v : View O E T). Opens v) views
 
-  -- 2. The journal is the list of the value, or of the view that holds the turn
+  -- 2. The journal is the list of the value, or of the view that holds the turn, with the entry in flight as its last
   abbrev pub Tells : View O E T → Type 0
   Tells v = holding v ≡ true → v.seen ≡ h.journal
+
+  abbrev pub Counted : View O E T → Type 0
+  Counted v = (e : E) → v.flight ≡ Some e → (before : List E) × (v.seen ≡ before ++ e ∷ [])
 
   pub record Two (entries : V → List E) (views : List (View O E T)) : Type 0 where
     pub value : (x : V) → h.place ≡ Some x → entries x ≡ h.journal
     pub each : Each (λ j (v : View O E T). Tells v) views
+    pub flight : Each (λ j (v : View O E T). Counted v) views
 
   -- 3. What a pass has seen begins the journal, and what it knows is at most the count, which is the journal's length
   abbrev pub Sees : View O E T → Type 0

@@ -9,8 +9,7 @@ pub mod annal;
 mod law;
 mod lock;
 pub mod pass;
-pub mod turn;
-pub mod view;
-
 #[cfg(test)]
 mod tests;
+pub mod turn;
+pub mod view;

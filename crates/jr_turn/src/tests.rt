@@ -105,7 +105,11 @@ fn work<R: Wait>(
 }
 
 // Two passes on two threads, joined, and the diary that they leave.
-fn two<R: Threads + Wait + Sync>(rt: &R, alloc: Global, times: u32) -> Result<(u64, Diary), Memory> {
+fn two<R: Threads + Wait + Sync>(
+    rt: &R,
+    alloc: Global,
+    times: u32,
+) -> Result<(u64, Diary), Memory> {
     let (turn, mut first) = Turn::new(alloc, Diary::new(alloc), 2)?;
     let second = turn.split(&mut first);
     let shared = &turn;

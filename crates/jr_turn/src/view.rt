@@ -35,7 +35,6 @@ pub struct View<O, E, T> {
     pub spent: bool,
 }
 
-pub type ViewOf<V> =
-    View<<V as Annal>::Opening, <V as Annal>::Entry, <V as Annal>::Ticket>;
+pub type ViewOf<V> = View<<V as Annal>::Opening, <V as Annal>::Entry, <V as Annal>::Ticket>;
 
 pub type SeatOf<V> = Seat<Option<V>, ViewOf<V>>;
