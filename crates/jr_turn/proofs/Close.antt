@@ -8,7 +8,7 @@ use Rattle.atomic_table.specs.Table.{State, opening, Final, Seen}
 use Rattle.atomic_table.proofs.Lists.{set_else}
 use Rattle.jr_turn.specs.declared.view.View.{View}
 use Rattle.jr_turn.specs.Views.{as_list, open_tickets, newcomer, holding, steps}
-use Rattle.jr_turn.specs.Points.{Each, total, one_if, spending, tickets, home_of, Rule}
+use Rattle.jr_turn.specs.Points.{total, one_if, spending, tickets, home_of, Rule}
 use Rattle.jr_turn.specs.Tellings.{IsLast}
 use Rattle.jr_turn.proofs.Orders.{unappend_behind, one_order, no_order}
 use Rattle.jr_turn.proofs.Places.{each_one, total_set, tickets_only, none_some}

@@ -1,5 +1,5 @@
 -- An entry is counted.
-use Rattle.std.proofs.Common.{◌≡◌, ◌≢◌, ℕ, ◌+◌, ◌%◌, ◌^◌, ◌<◌, List, [], ◌∷◌, ◌++◌, length, get_or, set, Bool, cond, true, false, Option, Some, None, refl, sym, ap, ◌∙◌, subst, arith, length-set, length-append, append_assoc, append-nil, ne_eqb}
+use Rattle.std.proofs.Common.{◌≡◌, ◌≢◌, ℕ, ◌+◌, ◌%◌, ◌^◌, ◌<◌, List, [], ◌∷◌, ◌++◌, length, get_or, set, cond, true, false, Option, Some, None, refl, sym, ap, ◌∙◌, subst, arith, length-set, length-append, append_assoc, append-nil, ne_eqb}
 use Rattle.std.specs.Option.{ForSome}
 use Rattle.std.proofs.lemmas.List.Elements.{filter-append}
 use Rattle.std.proofs.Math.Nat.{mod-eq_of_lt}

@@ -1,5 +1,5 @@
 -- The value is given back.
-use Rattle.std.proofs.Common.{◌≡◌, ℕ, ◌+◌, List, [], ◌∷◌, ◌++◌, length, set, true, false, true≢false, Option, Some, None, refl, sym, ap, ◌∙◌, subst, arith, length-set}
+use Rattle.std.proofs.Common.{◌≡◌, ℕ, ◌+◌, List, [], ◌∷◌, ◌++◌, set, true, false, true≢false, Option, Some, None, refl, sym, ap, ◌∙◌, subst, arith, length-set}
 use Rattle.std.specs.Prelude.{is_some, IsPermutation}
 use Rattle.std.proofs.lemmas.List.Sorted.{IsPermutation-trans, IsPermutation-append_left, IsPermutation-append_right}
 use mathlib.Core.Option.{none, some}
@@ -7,7 +7,7 @@ use lib.ListN.{get_elem?}
 use lib.Seq.{set-get_or}
 use Rattle.atomic_table.specs.Table.{Me, step, gives, rest, put_back, Allows}
 use Rattle.jr_turn.specs.declared.view.View.{View}
-use Rattle.jr_turn.specs.Views.{IsReplaced, as_list, open_tickets, with_given, with_served, holding}
+use Rattle.jr_turn.specs.Views.{IsReplaced, as_list, open_tickets, with_given, holding}
 use Rattle.jr_turn.specs.Points.{Inner, drawing, tickets, One, Two, Three, Five, Six, Rule}
 use Rattle.jr_turn.specs.Tellings.{gave, Fits}
 use Rattle.jr_turn.proofs.Orders.{unappend}
@@ -98,6 +98,3 @@ module _ {V O E T : Type 0} (opening : V → O) (entries : V → List E) (in_han
       let now : ◌≡◌ {A = Me (Option V) (View O E T)} me (me₀.0, (0, Some x) ∷ []) = is ∙ ap (λ c. (me₀.0, (0, Some x) ∷ rest c)) empty in
       subst (λ (m : Me (Option V) (View O E T)). Allows (Rule opening entries in_hand waiting guest) slots id m 1 (λ n. n) (gave ticket (step slots 1 0 0 none) m)) (sym now)
       (gives_back slots id (me₀.0, (0, Some x) ∷ []) x ticket refl live hold fits)
-
-pub after_give : {V O E T : Type 0} (me₀ me₁ me₂ me : Me (Option V) (View O E T)) (c : List (ℕ × Option V)) (ticket : Option T) → me₁ ≡ (me₀.0, c) → me₂ ≡ (with_given me₁.0 ticket, []) → me ≡ (with_served me₂.0, me₂.1) → me ≡ (with_served (with_given me₀.0 ticket), [])
-after_give {V} {O} {E} {T} me₀ me₁ me₂ me c ticket was gave is = is ∙ (ap (λ (m : Me (Option V) (View O E T)). (with_served m.0, m.1)) gave ∙ ap (λ (m : Me (Option V) (View O E T)). (with_served (with_given m.0 ticket), [])) was)

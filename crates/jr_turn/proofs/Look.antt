@@ -1,5 +1,5 @@
 -- The count is loaded.
-use Rattle.std.proofs.Common.{◌≡◌, ℕ, ◌+◌, ◌≤◌, List, ◌++◌, length, get_or, set, true, false, Option, Some, refl, sym, ap, ◌∙◌, subst, arith, length-set, length-append, le_refl}
+use Rattle.std.proofs.Common.{◌≡◌, ℕ, ◌+◌, ◌≤◌, List, length, get_or, set, true, false, Option, Some, refl, sym, ap, ◌∙◌, subst, arith, length-set, length-append, le_refl}
 use mathlib.Core.Option.{none, some}
 use lib.ListN.{get_elem?}
 use lib.Seq.{set-get_or}

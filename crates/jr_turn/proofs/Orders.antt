@@ -1,7 +1,7 @@
 -- One list in another order: what was put in front of both can be taken away.
-use Rattle.std.proofs.Common.{◌≡◌, ℕ, zero, suc, ◌+◌, ◌<◌, List, [], ◌∷◌, ◌++◌, length, get_or, set, refl, sym, ap, ◌∙◌, subst, arith, append_assoc}
+use Rattle.std.proofs.Common.{◌≡◌, ℕ, zero, suc, ◌<◌, List, [], ◌∷◌, ◌++◌, length, get_or, set, refl, ap, subst, arith, append_assoc}
 use Rattle.std.specs.Prelude.{IsPermutation, Contains, swap}
-use Rattle.std.proofs.lemmas.List.Sorted.{IsPermutation-refl, IsPermutation-sym, IsPermutation-trans, IsPermutation-cons, IsPermutation-keeps, IsPermutation-middle, IsPermutation-append, IsPermutation-append_left, IsPermutation-append_right, IsPermutation-append_comm, Contains-permutation, length_permutation}
+use Rattle.std.proofs.lemmas.List.Sorted.{IsPermutation-refl, IsPermutation-sym, IsPermutation-trans, IsPermutation-cons, IsPermutation-keeps, IsPermutation-middle, IsPermutation-append_left, IsPermutation-append_comm, Contains-permutation, length_permutation}
 
 -- a list is the other after some exchanges of neighbours
 data Moved {X : Type 0} : List X → List X → Type 0 where

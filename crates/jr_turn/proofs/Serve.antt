@@ -1,5 +1,5 @@
 -- The next number is served.
-use Rattle.std.proofs.Common.{◌≡◌, ◌≢◌, ℕ, ◌+◌, ◌%◌, ◌^◌, List, [], ◌∷◌, length, get_or, set, true, false, true≢false, Option, Some, refl, sym, ap, ◌∙◌, arith, length-set}
+use Rattle.std.proofs.Common.{◌≡◌, ◌≢◌, ℕ, ◌+◌, ◌%◌, ◌^◌, List, [], ◌∷◌, get_or, set, true, false, true≢false, Option, Some, refl, sym, ap, ◌∙◌, arith, length-set}
 use Rattle.std.proofs.Math.Nat.{mod-add-mod}
 use Rattle.std.specs.Prelude.{is_some}
 use mathlib.Core.Option.{none, some, some-injective}
@@ -73,7 +73,7 @@ module _ {V O E T : Type 0} (opening : V → O) (entries : V → List E) (in_han
   )
 
   -- the same of a seat that has just given the slot back
-  pub serves_from : (slots id : ℕ) (me₀ me₁ me : Me (Option V) (View O E T)) (c : List (ℕ × Option V)) (ticket : Option T) → me₁ ≡ (me₀.0, c) → me ≡ (with_given me₁.0 ticket, []) → me₀.0.spent ≡ false
+  pub serves_from : (slots id : ℕ) (v : View O E T) (me₁ me : Me (Option V) (View O E T)) (ticket : Option T) → me₁.0 ≡ v → me ≡ (with_given me₁.0 ticket, []) → v.spent ≡ false
       → Allows (Rule opening entries in_hand waiting guest) slots id me 1 (λ n. (n + 1) % 2 ^ 64) (served_next (step slots 1 1 0 none) me)
-  serves_from slots id me₀ me₁ me c ticket was is live =
-      serves slots id me (ap (λ (m : Me (Option V) (View O E T)). m.0.spent) is ∙ (ap (λ (m : Me (Option V) (View O E T)). m.0.spent) was ∙ live)) (ap (λ (m : Me (Option V) (View O E T)). m.0.given) is)
+  serves_from slots id v me₁ me ticket was is live =
+      serves slots id me (ap (λ (m : Me (Option V) (View O E T)). m.0.spent) is ∙ (ap (λ (x : View O E T). x.spent) was ∙ live)) (ap (λ (m : Me (Option V) (View O E T)). m.0.given) is)

@@ -1,6 +1,6 @@
 -- The value is taken where the number served is the pass's own.
-use Rattle.std.proofs.Common.{◌≡◌, ◌≢◌, ℕ, ◌+◌, ◌%◌, ◌^◌, ◌<◌, ◌==◌, List, [], ◌∷◌, ◌++◌, length, get_or, set, true, false, true≢false, Option, Some, None, refl, sym, ap, ◌∙◌, subst, arith, length-set, append-nil, eq-eqb, ne_eqb}
-use Rattle.std.specs.Prelude.{MatchBool, IsPermutation, Contains, is_some}
+use Rattle.std.proofs.Common.{◌≡◌, ℕ, ◌+◌, ◌%◌, ◌^◌, List, [], ◌∷◌, get_or, set, false, true≢false, Option, Some, None, refl, sym, ap, ◌∙◌, subst, arith, length-set, append-nil, eq-eqb, ne_eqb}
+use Rattle.std.specs.Prelude.{MatchBool, IsPermutation, is_some}
 use Rattle.std.proofs.lemmas.List.Sorted.{IsPermutation-sym, Contains-permutation}
 use mathlib.Core.Logic.{dite}
 use mathlib.Core.Option.{none, some, some-injective}
@@ -144,13 +144,6 @@ module _ {V O E T : Type 0} (opening : V → O) (entries : V → List E) (in_han
   hit_tells m m₀ m' n d number is own word found tells =
       subst (λ (z : M). Got z m') is (subst (λ b. MatchBool b (Got m m') (m' ≡ m)) (eq-eqb n (d % 2 ^ 64) (found ∙ sym word)) (tells d (ap (λ (z : M). z.0.drawn) is ∙ own)))
 
-  pub miss_tells : (m m₀ m' : M) (n d number : ℕ) → m ≡ m₀ → m₀.0.drawn ≡ Some d → d % 2 ^ 64 ≡ number → n ≢ number → took opening entries in_hand face guest (step 0 0 0 0 none) m n m' → m' ≡ m₀
-  miss_tells m m₀ m' n d number is own word other tells =
-      subst (λ b. MatchBool b (Got m m') (m' ≡ m)) (ne_eqb n (d % 2 ^ 64) (λ e. other (e ∙ word))) (tells d (ap (λ (z : M). z.0.drawn) is ∙ own)) ∙ is
-
   -- the slot has the value
   pub there : (m m' : M) → Got m m' → (y : Option V) × (m'.1 ≡ (0, y) ∷ rest m'.1)
   there m m' got = let e = ap (λ (z : M). z.1) got.2 in (Some got.0, e ∙ ap (λ r. (0, Some got.0) ∷ r) (sym (ap rest e)))
-
-  pub is_there : (m m' : M) (y : Option V) → (got : Got m m') → m'.1 ≡ (0, y) ∷ rest m'.1 → y ≡ Some got.0
-  is_there m m' y got has = let e = ap (λ (z : M). z.1) got.2 in let both : (0, y) ∷ rest m'.1 ≡ (0, Some got.0) ∷ m.1 = sym has ∙ e in let pair : ◌≡◌ {A = ℕ × Option V} (0, y) (0, Some got.0) = cc (both) in ap (λ (p : ℕ × Option V). p.1) pair

@@ -1,5 +1,5 @@
 -- What each atomic step tells the pass that makes it, of its view before and after.
-use Rattle.std.specs.Prelude.{◌≡◌, ℕ, ◌+◌, ◌%◌, ◌^◌, ◌<◌, ◌≤◌, ◌==◌, List, [], ◌∷◌, length, Option, Some, None, MatchBool, Contains}
+use Rattle.std.specs.Prelude.{◌≡◌, ℕ, ◌%◌, ◌^◌, ◌≤◌, ◌==◌, List, [], ◌∷◌, length, Option, Some, MatchBool, Contains}
 use Rattle.std.specs.Option.{ForSome}
 use Rattle.atomic_table.specs.Table.{Me, Step}
 use Rattle.jr_turn.specs.declared.annal.Face.{Face}

@@ -5,7 +5,7 @@ use Rattle.jr_turn.proofs.lock.Lock.wait_for.Goals as goal
 pub load-requires : goal.load-requires
 load-requires g c =
     let i = c.loop.invariant in let q = c.requires in (
-      i.table ∙ q.table,
+      search rules,
       search rules,
       takes_turn _ _ _ _ _ _ _ _ q.drawn.0 c.loop.seat.me (ap (λ m. m.0.spent) i.me ∙ q.idle.0) (ap (λ m. m.0.out) i.me ∙ q.idle.1) (ap (λ m. m.0.given) i.me ∙ q.idle.2) (ap (λ m. m.0.drawn) i.me ∙ q.drawn.1),
     )
@@ -14,4 +14,4 @@ pub exchange-requires : goal.exchange-requires
 exchange-requires g c =
     let i = c.loop.invariant in let q = c.requires in
     let got = hit_tells _ _ _ _ _ c.loop.seat.me c.args.seat.now.me c.load.new.seat.me c.load.result q.drawn.0 c.args.number i.me q.drawn.1 q.drawn.2 c.if-load-number.true c.load.ensures.2 in
-    (c.load.ensures.0 ∙ (i.table ∙ q.table), there _ _ _ _ _ _ _ got)
+    (search rules, there _ _ _ _ _ _ _ got)
