@@ -11,3 +11,4 @@ pub mod Split
 pub mod Join
 pub mod Close
 pub mod Rest
+pub mod Tickets
