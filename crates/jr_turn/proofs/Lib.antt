@@ -12,3 +12,4 @@ pub mod Join
 pub mod Close
 pub mod Rest
 pub mod Tickets
+mod Examples
