@@ -13,3 +13,8 @@ pub mod pass;
 mod tests;
 pub mod turn;
 pub mod view;
+
+pub use annal::{Annal, Face};
+pub use pass::Pass;
+pub use turn::Turn;
+pub use view::View;

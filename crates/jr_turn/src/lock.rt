@@ -17,6 +17,7 @@ use std::alloc::Global;
 use std::marker::Brand;
 use std::snapshot::Snapshot;
 use std::sync::Wait;
+use std::thread;
 
 /// The words ticket, serving and count, and the slot with the value.
 #[derive(Drop)]
@@ -57,7 +58,8 @@ impl<V: Annal> Lock<V> {
         self.table.shared.fetch_add::<Draws>(seat, 0, 1)
     }
 
-    // Waits until the number is served, and takes the value.
+    // Waits until the number is served, and takes the value. The next in line spins for a while before
+    // it yields the processor; the others, who have longer to wait, yield it at once.
     fn wait_for<R: Wait>(&self, rt: &R, seat: &mut SeatOf<V>, number: u64) -> V
         requires table { seat.old.table_id ≡ self.now.table.shared.table_id }
         requires idle { (seat.old.me.0.spent ≡ false) × (seat.old.me.0.out ≡ None) × (seat.old.me.0.given ≡ false) × (seat.old.me.1 ≡ []) }
@@ -68,13 +70,18 @@ impl<V: Annal> Lock<V> {
     {
         let backoff = Backoff::new();
         for _ in rt.forever() {
-            if self.table.shared.load::<Takes>(seat, 1) == number {
+            let served = self.table.shared.load::<Takes>(seat, 1);
+            if served == number {
                 let Some(value) = self.table.shared.exchange(seat, 0, None) else {
                     unreachable!()
                 };
                 return value;
             }
-            backoff.snooze();
+            if number.wrapping_sub(served) == 1 {
+                backoff.snooze();
+            } else {
+                thread::yield_now();
+            }
         }
         unreachable!()
     }

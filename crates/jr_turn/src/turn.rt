@@ -26,8 +26,6 @@ impl<V: Annal> Model for Turn<V> {
     ghost Value = { Identity };
 
     ghost view = { λ t. record { turn = t.lock.table.shared.table_id; seats = t.seats } };
-
-    ghost invariant = { λ t. Unit {0} };
 }
 
 impl<V: Annal> Turn<V> {
@@ -58,7 +56,8 @@ impl<V: Annal> Turn<V> {
 
     /// Waits until all who asked before have given the turn back, and takes the value.
     ///
-    /// It backs off while it waits, and yields the processor in the end.
+    /// While it waits it yields the processor, so that the holder can go on. Who is next in line spins
+    /// for a while before that.
     pub fn take<R: Wait>(&self, rt: &R, pass: &mut Pass<V>) -> V
         requires turn { pass.old.turn ≡ self.now.turn }
         requires away { pass.old.view.out ≡ None }

@@ -2,8 +2,8 @@ use Rattle.std.proofs.Common.{rules, ap, ◌∙◌}
 use Rattle.jr_turn.proofs.Take.{takes_turn, hit_tells, there}
 use Rattle.jr_turn.proofs.lock.Lock.wait_for.Goals as goal
 
-pub load-requires : goal.load-requires
-load-requires g c =
+pub load-served-requires : goal.load-served-requires
+load-served-requires g c =
     let i = c.loop.invariant in let q = c.requires in (
       search rules,
       search rules,
@@ -13,5 +13,5 @@ load-requires g c =
 pub exchange-requires : goal.exchange-requires
 exchange-requires g c =
     let i = c.loop.invariant in let q = c.requires in
-    let got = hit_tells _ _ _ _ _ c.loop.seat.me c.args.seat.now.me c.load.new.seat.me c.load.result q.drawn.0 c.args.number i.me q.drawn.1 q.drawn.2 c.if-load-number.true c.load.ensures.2 in
+    let got = hit_tells _ _ _ _ _ c.loop.seat.me c.args.seat.now.me c.load-served.new.seat.me c.load-served.result q.drawn.0 c.args.number i.me q.drawn.1 q.drawn.2 c.if-served-number.true c.load-served.ensures.2 in
     (search rules, there _ _ _ _ _ _ _ got)
