@@ -22,7 +22,8 @@ pub record Standing (O E T : Type 0) : Type 0 where
   pub view : View O E T
 
 module _ {V O E T : Type 0} where
-  -- Between two calls a pass isn't spent, and has the mark at no time. One that doesn't hold the turn has no number drawn, no entry in flight and no slot
+  -- Between two calls a pass isn't spent, and has the mark at no time. One that doesn't hold the
+  -- turn has no number drawn, no entry in flight and no slot
   pub record AtRest (m : Me (Option V) (View O E T)) : Type 0 where
     pub live : m.0.spent ≡ false
     pub given : m.0.given ≡ false

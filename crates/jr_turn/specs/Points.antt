@@ -66,7 +66,8 @@ module _ {V O E T : Type 0} (h : Inner V O E) where
     pub value : (x : V) → h.place ≡ Some x → opening x ≡ h.opening
     pub each : Each (λ j (v : View O E T). Opens v) views
 
-  -- 2. The journal is the list of the value, or of the view that holds the turn, with the entry in flight as its last
+  -- 2. The journal is the list of the value, or of the view that holds the turn, with the entry
+  -- in flight as its last
   abbrev pub Tells : View O E T → Type 0
   Tells v = holding v ≡ true → v.seen ≡ h.journal
 
@@ -78,7 +79,8 @@ module _ {V O E T : Type 0} (h : Inner V O E) where
     pub each : Each (λ j (v : View O E T). Tells v) views
     pub flight : Each (λ j (v : View O E T). Counted v) views
 
-  -- 3. What a pass has seen begins the journal, and what it knows is at most the count, which is the journal's length
+  -- 3. What a pass has seen begins the journal, and what it knows is at most the count, which is
+  -- the journal's length
   abbrev pub Sees : View O E T → Type 0
   Sees v = v.spent ≡ false → IsPrefix v.seen h.journal × (v.known ≤ h.count)
 
@@ -87,7 +89,8 @@ module _ {V O E T : Type 0} (h : Inner V O E) where
     pub counted : h.count ≡ length h.journal
     pub short : length h.journal < 2 ^ 63
 
-  -- 4. A pass has its own number, which is its place, and the steps of its number. The first pass stays, and keeps how many passes were made and joined. No higher number has a step
+  -- 4. A pass has its own number, which is its place, and the steps of its number. The first pass
+  -- stays, and keeps how many passes were made and joined. No higher number has a step
   pub record Owns (guest : E → Option ℕ) (j : ℕ) (v : View O E T) : Type 0 where
     pub number : v.number ≡ j + 1
     pub mine : v.mine ≡ steps guest (j + 1) h.journal
@@ -102,7 +105,9 @@ module _ {V O E T : Type 0} (h : Inner V O E) where
     pub first : Each (λ j (v : View O E T). j ≡ 0 → Leads (length views) (total spending views) v) views
     pub none_above : (n : ℕ) → length views < n → steps guest n h.journal ≡ []
 
-  -- 5. The numbers drawn are those from serving up to ticket, each in one view. The slot is empty exactly while a view holds the turn, which only the one that drew serving does; only that one counts, and has the mark once it has given the slot back
+  -- 5. The numbers drawn are those from serving up to ticket, each in one view. The slot is empty
+  -- exactly while a view holds the turn, which only the one that drew serving does; only that one
+  -- counts, and has the mark once it has given the slot back
   abbrev pub Draws : View O E T → Type 0
   Draws v = (d : ℕ) → v.drawn ≡ Some d → (h.served ≤ d) × (d < h.drawn)
 
@@ -120,7 +125,8 @@ module _ {V O E T : Type 0} (h : Inner V O E) where
     pub turn : Each (λ j (v : View O E T). InTurn v) views
     pub empty : h.place ≡ None → SomeOf (λ j (v : View O E T). holding v ≡ true) views
 
-  -- 6. The open tickets of the value are those in the views and those that wait in it, each once. While the value is out, those in the views are the ones that the holder keeps as out
+  -- 6. The open tickets of the value are those in the views and those that wait in it, each once.
+  -- While the value is out, those in the views are the ones that the holder keeps as out
   abbrev pub Keeps : List (View O E T) → View O E T → Type 0
   Keeps views v = (out : List T) → v.out ≡ Some out → IsPermutation out (tickets views)
 
@@ -128,7 +134,8 @@ module _ {V O E T : Type 0} (h : Inner V O E) where
     pub value : (x : V) → h.place ≡ Some x → IsPermutation (open_tickets in_hand waiting x) (tickets views ++ waiting x)
     pub each : Each (λ j (v : View O E T). Keeps views v) views
 
--- 7. A pass that was joined has no number drawn, nothing in flight and no ticket, and doesn't hold the turn
+-- 7. A pass that was joined has no number drawn, nothing in flight and no ticket, and doesn't
+-- hold the turn
 pub record IsIdle {O E T : Type 0} (v : View O E T) : Type 0 where
   pub drawn : v.drawn ≡ None
   pub out : v.out ≡ None

@@ -56,7 +56,10 @@ impl Diary {
 
     // Adds a note, where there is room.
     fn add(&mut self, note: Note) -> bool
-        ensures { MatchBool result ((self.new.notes.items ≡ self.old.notes.items ++ note ∷ []) × (length self.new.notes.items < 2 ^ 63)) (self.new.notes.items ≡ self.old.notes.items) }
+        ensures { MatchBool result
+            ((self.new.notes.items ≡ self.old.notes.items ++ note ∷ [])
+            × (length self.new.notes.items < 2 ^ 63))
+            (self.new.notes.items ≡ self.old.notes.items) }
     {
         self.notes.len() < 1 << 40 && self.notes.push(note).is_ok()
     }
@@ -69,8 +72,11 @@ fn round<R: Wait>(rt: &R, turn: &Turn<Diary>, pass: &mut Pass<Diary>, note: Note
     requires own { pass.old.view.number ≡ note.by }
     ensures turn { pass.new.turn ≡ pass.old.turn }
     ensures away { (pass.new.view.out ≡ None) × (pass.new.view.ticket ≡ None) }
-    ensures counts { (pass.new.view.number ≡ pass.old.view.number) × (pass.new.view.made ≡ pass.old.view.made) × (pass.new.view.joined ≡ pass.old.view.joined) }
-    ensures mine { MatchBool result (pass.new.view.mine ≡ pass.old.view.mine ++ note ∷ []) (pass.new.view.mine ≡ pass.old.view.mine) }
+    ensures counts { (pass.new.view.number ≡ pass.old.view.number)
+        × (pass.new.view.made ≡ pass.old.view.made) × (pass.new.view.joined ≡ pass.old.view.joined) }
+    ensures mine { MatchBool result
+        (pass.new.view.mine ≡ pass.old.view.mine ++ note ∷ [])
+        (pass.new.view.mine ≡ pass.old.view.mine) }
 {
     let mut value = turn.take(rt, pass);
     let added = value.add(note);
@@ -94,7 +100,8 @@ fn work<R: Wait>(
     requires own { pass.view.number ≡ by }
     ensures turn { result.turn ≡ pass.turn }
     ensures away { (result.view.out ≡ None) × (result.view.ticket ≡ None) }
-    ensures counts { (result.view.number ≡ pass.view.number) × (result.view.made ≡ pass.view.made) × (result.view.joined ≡ pass.view.joined) }
+    ensures counts { (result.view.number ≡ pass.view.number) × (result.view.made ≡ pass.view.made)
+        × (result.view.joined ≡ pass.view.joined) }
 {
     for number in 0..times {
         if !round(rt, turn, &mut pass, Note { by, number }) {
@@ -116,12 +123,17 @@ fn two<R: Threads + Wait + Sync>(
     let (mut first, second) = thread::join(
         rt,
         move || -> Pass<Diary>
-            requires { (first.turn ≡ shared.now.turn) × (first.view.out ≡ None) × (first.view.ticket ≡ None) × (first.view.number ≡ 1) }
-            ensures { (result.turn ≡ first.turn) × (result.view.out ≡ None) × (result.view.ticket ≡ None) × (result.view.number ≡ 1) × (result.view.made ≡ first.view.made) × (result.view.joined ≡ first.view.joined) }
+            requires { (first.turn ≡ shared.now.turn) × (first.view.out ≡ None)
+                × (first.view.ticket ≡ None) × (first.view.number ≡ 1) }
+            ensures { (result.turn ≡ first.turn) × (result.view.out ≡ None)
+                × (result.view.ticket ≡ None) × (result.view.number ≡ 1)
+                × (result.view.made ≡ first.view.made) × (result.view.joined ≡ first.view.joined) }
         { work(rt, shared, first, 1, times) },
         move || -> Pass<Diary>
-            requires { (second.turn ≡ shared.now.turn) × (second.view.out ≡ None) × (second.view.ticket ≡ None) × (second.view.number ≡ 2) }
-            ensures { (result.turn ≡ second.turn) × (result.view.out ≡ None) × (result.view.ticket ≡ None) }
+            requires { (second.turn ≡ shared.now.turn) × (second.view.out ≡ None)
+                × (second.view.ticket ≡ None) × (second.view.number ≡ 2) }
+            ensures { (result.turn ≡ second.turn) × (result.view.out ≡ None)
+                × (result.view.ticket ≡ None) }
         { work(rt, shared, second, 2, times) },
     );
     turn.join(&mut first, second);

@@ -68,7 +68,8 @@ impl<V: Annal> Turn<V> {
         ensures ticket { ForSome pass.old.view.ticket (Contains (V.in_hand result)) }
         ensures uncounted { pass.new.view.flight ≡ None }
         // All else is as before: the opening, the steps and the ticket among it.
-        ensures pass { pass.new.view ≡ with_taken pass.old.view (V.entries result) (V.face result) (V.in_hand result) }
+        ensures pass { pass.new.view
+            ≡ with_taken pass.old.view (V.entries result) (V.face result) (V.in_hand result) }
     {
         self.lock.take(rt, &mut pass.seat)
     }
@@ -78,11 +79,13 @@ impl<V: Annal> Turn<V> {
         requires turn { pass.old.turn ≡ self.now.turn }
         requires holds { IsSome pass.old.view.out }
         requires once { pass.old.view.flight ≡ None }
-        requires entry { (e : _) × (V.entries value.now ≡ pass.old.view.seen ++ e ∷ []) × ForSome (V.guest e) (λ m. m ≡ pass.old.view.number) }
+        requires entry { (e : _) × (V.entries value.now ≡ pass.old.view.seen ++ e ∷ [])
+            × ForSome (V.guest e) (λ m. m ≡ pass.old.view.number) }
         requires room { length (V.entries value.now) < 2 ^ 63 }
         ensures turn { pass.new.turn ≡ pass.old.turn }
         ensures seen { pass.new.view.seen ≡ V.entries value.now }
-        ensures pass { (e : _) → V.entries value.now ≡ pass.old.view.seen ++ e ∷ [] → pass.new.view ≡ with_entry V.guest pass.old.view e }
+        ensures pass { (e : _) → V.entries value.now ≡ pass.old.view.seen ++ e ∷ []
+            → pass.new.view ≡ with_entry V.guest pass.old.view e }
     {
         self.lock.count(&mut pass.seat, value);
     }
@@ -94,9 +97,11 @@ impl<V: Annal> Turn<V> {
         requires holds { IsSome pass.old.view.out }
         requires opening { pass.old.view.opening ≡ Some (V.opening value) }
         requires seen { V.entries value ≡ pass.old.view.seen }
-        requires tickets { IsReplaced pass.old.view.ticket (kept_ticket pass.old.view.ticket ticket) (out_tickets pass.old.view) (V.in_hand value) }
+        requires tickets { IsReplaced pass.old.view.ticket
+            (kept_ticket pass.old.view.ticket ticket) (out_tickets pass.old.view) (V.in_hand value) }
         ensures turn { pass.new.turn ≡ pass.old.turn }
-        ensures pass { pass.new.view ≡ with_back pass.old.view (kept_ticket pass.old.view.ticket ticket.entry) }
+        ensures pass { pass.new.view
+            ≡ with_back pass.old.view (kept_ticket pass.old.view.ticket ticket.entry) }
     {
         self.lock.give_as::<Brand>(&mut pass.seat, value, ticket);
     }
