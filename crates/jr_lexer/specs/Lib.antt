@@ -1,0 +1,9 @@
+pub mod Token
+pub mod Signs
+pub mod Lexical
+pub mod Reading
+pub mod Classes
+pub mod Found
+pub mod Answers
+pub mod Adds
+pub mod Literals

@@ -1,0 +1,15 @@
+//! A token without its text.
+
+use crate::kind::Kind;
+use jr_base::Span;
+
+/// A token, whose text stands among all texts from `start` on.
+#[derive(Clone, Copy)]
+pub(crate) struct Stored {
+    pub kind: Kind,
+    pub jml: bool,
+    pub number: u32,
+    pub span: Span,
+    pub start: usize,
+    pub len: u32,
+}
