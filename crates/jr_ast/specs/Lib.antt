@@ -1,0 +1,4 @@
+pub mod Expressions
+pub mod Clauses
+pub mod Statements
+pub mod Units
