@@ -1,7 +1,7 @@
 //! Expressions, of code and of clauses.
 
 ghost use Rattle.std.specs.Prelude.{◌≡◌, IfOk, map};
-ghost use Rattle.jr_ast.specs.Expressions.{onto, view_expr, view_shape, view_suffix};
+ghost use Rattle.jr_ast.specs.Expressions.{onto, place_of, view_expr, view_shape, view_suffix};
 
 use crate::name::{ElementType, Name};
 use crate::operator::{AssignOp, Infix, Postfix, Prefix};
@@ -64,7 +64,7 @@ pub enum Shape {
     /// Reference Manual, "\lockset"; Rodríguez, Dwyer, Flanagan, Hatcliff, Leavens and Robby 2005).
     InLockset(Expr),
     /// A quantifier over an `int`, of clauses alone (JML Reference Manual, "Quantified Expressions").
-    Quantified(Boxed<Quantified>),
+    Quantified(Boxed<QuantifiedExpr>),
 }
 
 /// What may follow a primary.
@@ -82,7 +82,7 @@ pub enum Suffix {
 /// A quantifier. It goes over the ints between two bounds, of which the conjuncts hold.
 #[cycle(expr)]
 #[derive(Drop)]
-pub struct Quantified {
+pub struct QuantifiedExpr {
     pub quantifier: Quantifier,
     pub variable: Name,
     pub low: Expr,
@@ -126,6 +126,14 @@ impl Expr {
     {
         let shape = Boxed::new(alloc, shape)?;
         Ok(Expr { place, shape })
+    }
+
+    /// The place of its first token: the field, as one fact of the plain data.
+    #[tactic(auto, using(crate::proofs::Places::place_kept))]
+    pub fn place(&self) -> Span
+        ensures { result ≡ place_of (view_expr self.now) }
+    {
+        self.place
     }
 
     /// A primary with what follows it; where nothing does, the primary itself.

@@ -13,10 +13,10 @@ pub mod stmt;
 pub mod unit;
 
 pub use clause::{ClassClause, ClassForm, Clause, MethodClause, MethodForm};
-pub use expr::{Bound, Expr, Quantified, Quantifier, Shape, SpecExpr, Suffix};
+pub use expr::{Bound, Expr, QuantifiedExpr, Quantifier, Shape, SpecExpr, Suffix};
 pub use name::{ElementType, Name, TypeName};
 pub use operator::{AssignOp, Infix, Postfix, Prefix};
-pub use stmt::{Catch, ForInit, ForLoop, Form, LocalDeclarator, Locals, Part, Stmt};
+pub use stmt::{Catch, ForInit, ForLoop, Form, LocalDeclaration, LocalDeclarator, Part, Stmt};
 pub use unit::{
     Class, Constant, ConstantValue, Field, FieldDeclarator, Formal, Member, Method, MethodKind,
     Modifier, ModifierKind, Unit,

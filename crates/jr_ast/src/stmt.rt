@@ -26,7 +26,7 @@ pub enum Form {
     /// `{ .. }` (JLS 14.2).
     Block(Items<Stmt>),
     /// Declared variables (JLS 14.4).
-    Locals(Locals),
+    Locals(LocalDeclaration),
     /// An assignment, increment, decrement, call or `new` (JLS 14.8).
     Expression(Expr),
     /// The condition, what is done where it holds, and what else (JLS 14.9).
@@ -80,7 +80,7 @@ pub struct Catch {
 
 /// Variables of one type (JLS 14.4). That they are `final` has no effect, and isn't kept.
 #[derive(Drop)]
-pub struct Locals {
+pub struct LocalDeclaration {
     pub type_name: TypeName,
     pub declarators: Items<LocalDeclarator>,
 }
@@ -95,7 +95,7 @@ pub struct LocalDeclarator {
 /// What a `for` does first (JLS 14.14.1): declarations, or expressions, of which there may be none.
 #[derive(Drop)]
 pub enum ForInit {
-    Locals(Locals),
+    Locals(LocalDeclaration),
     Expressions(Items<Expr>),
 }
 
