@@ -61,7 +61,7 @@ pub enum Shape {
     /// `\old(e)`, of clauses alone (JML Reference Manual, "\old and \pre").
     Old(Expr),
     /// `\lockset.has(e)` or `\lockset[e]`, of clauses alone: the thread owns the monitor of e (JML
-    /// Reference Manual, "\lockset"; Rodríguez, Dwyer, Flanagan, Hatcliff, Leavens and Robby 2005).
+    /// Reference Manual, "\lockset and \max"; Rodríguez, Dwyer, Flanagan, Hatcliff, Leavens and Robby 2005).
     InLockset(Expr),
     /// A quantifier over an `int`, of clauses alone (JML Reference Manual, "Quantified Expressions").
     Quantified(Boxed<QuantifiedExpr>),

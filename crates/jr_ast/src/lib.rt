@@ -10,6 +10,8 @@ pub mod expr;
 pub mod name;
 pub mod operator;
 pub mod stmt;
+#[cfg(test)]
+mod tests;
 pub mod unit;
 
 pub use clause::{ClassClause, ClassForm, Clause, MethodClause, MethodForm};
