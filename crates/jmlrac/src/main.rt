@@ -2,6 +2,8 @@
 //! Its part is to hand them to the top call; what a terminal, file or pipe held is no clause of it.
 #![tactic(auto)]
 
+ghost use Rattle.std.specs.Prelude.{◌≡◌};
+
 use jr_base::Memory;
 use jr_cli::{Words, jmlrac_quiet};
 use jr_io::{Piece, StdSink, StdSource};
@@ -32,10 +34,18 @@ fn run(rt: &HostRuntime) -> Result<u8, Memory> {
     let mut source = StdSource::new(rt.stdin());
     let mut sink = StdSink::new(rt.alloc(), rt.stdout())?;
     let ended = jmlrac_quiet(rt.alloc(), &words, &mut source, &mut sink);
-    Ok(match sink.finish() {
-        Piece::Whole => ended.status,
+    Ok(exit_status(ended.status, sink.finish()))
+}
+
+// The status of the process, where `last` is how the last write ended.
+fn exit_status(status: u8, last: Piece) -> u8
+    ensures whole { last ≡ Piece.Whole → result ≡ status }
+    ensures write_fault { last ≡ Piece.WriteFault → result ≡ 5 }
+{
+    match last {
+        Piece::Whole => status,
         Piece::WriteFault => WRITE_FAULT,
-    })
+    }
 }
 
 // The words after the program's name.
