@@ -17,7 +17,9 @@ pub mod value;
 pub use action::{Action, Body, Elem, EndHow, LeaveHow, NewKind, Parts, PrintPart, Reply, Way};
 pub use finish::{Fault, Finish, LimitKind, Verdict};
 pub use locks::Locks;
-pub use number::{ClassId, ClauseId, FieldId, GuestNo, MethodId, ObjId, Span, Stamp, TextId};
+pub use number::{
+    ClassId, ClauseId, FieldId, GuestNo, MethodId, ObjId, Position, Span, Stamp, TextId,
+};
 pub use refusal::{Fail, Memory, Refusal};
 pub use reserved::Reserved;
 pub use value::{Ask, Cell, Env, Seen, Value, Values};
