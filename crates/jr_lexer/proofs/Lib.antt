@@ -1,5 +1,6 @@
-pub mod Texts
 pub mod Ends
-pub mod Pieces
-pub mod Sources
 pub mod Examples
+pub mod Pieces
+pub mod Refused
+pub mod Sources
+pub mod Texts

@@ -1,9 +1,10 @@
-pub mod Token
-pub mod Signs
-pub mod Lexical
-pub mod Reading
+pub mod Adds
+pub mod Answers
 pub mod Classes
 pub mod Found
-pub mod Answers
-pub mod Adds
+pub mod Lexical
 pub mod Literals
+pub mod Reading
+pub mod Refusals
+pub mod Signs
+pub mod Token

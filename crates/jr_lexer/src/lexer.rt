@@ -1,9 +1,10 @@
 //! Reads a source piece by piece: blanks, comments, annotations and tokens.
 
-ghost use Rattle.std.specs.Prelude.{◌≡◌, ◌<◌, ◌≤◌, ◌+◌, true, false, [], length, slice_index, OnOk};
+ghost use Rattle.std.specs.Prelude.{◌≡◌, ◌<◌, ◌≤◌, ◌+◌, ℕ, List, true, false, [], length, slice_index, OnOk};
 ghost use Rattle.std.specs.Char.{is_ascii_digit};
 ghost use Rattle.jr_lexer.specs.Lexical as spec;
 ghost use Rattle.jr_lexer.specs.Answers.{Answers};
+ghost use Rattle.jr_lexer.specs.Refusals.{RefusesLexically};
 ghost use Rattle.jr_lexer.specs.Adds.{joined, Adds, AddsAll, Moves};
 
 use crate::kind::Kind;
@@ -31,6 +32,11 @@ pub fn lex(alloc: Global, bytes: &[u8]) -> Result<Tokens, Fail>
         Ok(_) => java_tokens(alloc, bytes),
     }
 }
+
+/// Whatever its bytes are, a source is refused for its tokens as one of these five alone.
+pub fn refusals_are_lexical()
+    ensures { (bytes : List ℕ) → RefusesLexically (spec.tokens bytes) }
+{}
 
 fn java_tokens(alloc: Global, bytes: &[u8]) -> Result<Tokens, Fail>
     requires { length bytes.now ≤ 1048576 }

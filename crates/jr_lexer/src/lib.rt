@@ -16,5 +16,5 @@ pub mod tokens;
 mod words;
 
 pub use kind::Kind;
-pub use lexer::lex;
+pub use lexer::{lex, refusals_are_lexical};
 pub use tokens::Tokens;

@@ -1,0 +1,10 @@
+pub mod Places
+pub mod More
+pub mod Turns
+pub mod Unrolled
+pub mod Shallow
+pub mod Whole
+pub mod Tokens
+pub mod Sound
+pub mod Agrees
+pub mod Complete

@@ -1,0 +1,9 @@
+pub mod Seen
+pub mod Operators
+pub mod Nesting
+pub mod Grammar
+pub mod Answers
+pub mod Within
+pub mod Primaries
+pub mod Nests
+pub mod Reading
