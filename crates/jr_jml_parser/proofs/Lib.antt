@@ -1,0 +1,9 @@
+pub mod Places
+pub mod Refusals
+pub mod Pieces
+pub mod Ties
+pub mod Modifiers
+pub mod Methods
+pub mod Classes
+pub mod Asserts
+pub mod Whole
