@@ -1,0 +1,13 @@
+pub mod Begins
+pub mod EachForm
+pub mod Elements
+pub mod Firsts
+pub mod Given
+pub mod Leaves
+pub mod Lists
+pub mod Moves
+pub mod Once
+pub mod Parts
+pub mod Statements
+pub mod Suffixes
+pub mod Views
