@@ -1,0 +1,10 @@
+pub mod Places
+pub mod Told
+pub mod OfParts
+pub mod OfFields
+pub mod OfSignatures
+pub mod Rows
+pub mod Below
+pub mod Ends
+pub mod OfMembers
+pub mod OfUnits

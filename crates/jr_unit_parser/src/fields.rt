@@ -1,0 +1,130 @@
+//! Fields (JLS 8.3).
+
+ghost use Rattle.std.specs.Prelude.{◌≡◌, ◌<◌, ◌+◌, [], length};
+ghost use Rattle.jr_lexer.specs.Answers.{Answers as Reads};
+ghost use Rattle.jr_unit_parser.specs.Reading as reading;
+
+use crate::head::Declared;
+use crate::source::Source;
+use jr_ast::{Constant, ConstantValue, Field, FieldDeclarator, MethodKind, Modifier, TypeName};
+use jr_base::{Fail, Refusal};
+use jr_lexer::Kind;
+use sqlite_items::Items;
+
+impl<'a> Source<'a> {
+    /// An integer literal without a sign, which is no 2147483648.
+    #[tactic(auto, unfolding(crate::specs::Reading::integer))]
+    fn integer(&self, at: u32) -> Result<(Constant, u32), Fail>
+        requires { at < 1048576 }
+        ensures { Reads (reading.integer self.now.tokens.now at) result }
+    {
+        let place = self.span(at);
+        let number = self.number(at);
+        if number < 2147483648 {
+            let value = ConstantValue::Integer(number);
+            return Ok((Constant { place, value }, at + 1));
+        }
+        if number == 2147483648 {
+            return Err(Fail::Refused(Refusal::BigLiteral(place)));
+        }
+        Err(Fail::Refused(self.refusal(at)))
+    }
+
+    /// `-` and an integer literal.
+    #[tactic(auto, unfolding(crate::specs::Reading::negated))]
+    fn negated(&self, at: u32) -> Result<(Constant, u32), Fail>
+        requires { at < 1048576 }
+        ensures { Reads (reading.negated self.now.tokens.now at) result }
+    {
+        self.expect(at + 1, Kind::Integer)?;
+        let number = self.number(at + 1);
+        if number > 2147483648 {
+            return Err(Fail::Refused(self.refusal(at + 1)));
+        }
+        let place = self.span(at);
+        let value = ConstantValue::Negated(number);
+        Ok((Constant { place, value }, at + 2))
+    }
+
+    /// A constant of one word.
+    fn literal(&self, at: u32, value: ConstantValue) -> (Constant, u32)
+        requires { at < 1048576 }
+        ensures { result ≡ (reading.constant_at self.now.tokens.now at value, at + 1) }
+    {
+        let place = self.span(at);
+        (Constant { place, value }, at + 1)
+    }
+
+    /// What a field begins with, and the place behind it.
+    #[tactic(auto, unfolding(crate::specs::Reading::constant))]
+    fn constant(&self, at: u32) -> Result<(Constant, u32), Fail>
+        ensures { Reads (reading.constant self.now.tokens.now at) result }
+    {
+        match self.seen(at) {
+            Kind::Integer => self.integer(at),
+            Kind::Minus => self.negated(at),
+            Kind::True => Ok(self.literal(at, ConstantValue::Boolean(true))),
+            Kind::False => Ok(self.literal(at, ConstantValue::Boolean(false))),
+            Kind::Null => Ok(self.literal(at, ConstantValue::Null)),
+            _ => Err(Fail::Refused(self.refusal(at))),
+        }
+    }
+
+    /// A field's name and constant, and the place behind them.
+    #[tactic(auto, unfolding(crate::specs::Reading::declarator))]
+    fn declarator(&self, at: u32) -> Result<(FieldDeclarator, u32), Fail>
+        ensures { Reads (reading.declarator self.now.tokens.now at) result }
+    {
+        self.expect(at, Kind::Name)?;
+        let name = self.name(at)?;
+        if !self.sees(at + 1, Kind::Equal) {
+            let constant = None;
+            return Ok((FieldDeclarator { name, constant }, at + 1));
+        }
+        let (constant, behind) = self.constant(at + 2)?;
+        let constant = Some(constant);
+        Ok((FieldDeclarator { name, constant }, behind))
+    }
+
+    /// One or more fields with commas between, and the place behind them.
+    #[tactic(auto, using(crate::proofs::Places::turn_left, crate::proofs::Places::no_turn_left), unfolding(crate::specs::Reading::listed))]
+    fn declarators(&self, at: u32) -> Result<(Items<FieldDeclarator>, u32), Fail>
+        ensures { Reads (reading.listed self.now.tokens.now (reading.declarator self.now.tokens.now) (length self.now.tokens.now) [] at) result }
+    {
+        let mut found = Items::new(self.alloc);
+        let mut at = at;
+        for _turn in 0..self.tokens.len() {
+            let (declarator, behind) = self.declarator(at)?;
+            found.push(declarator)?;
+            if !self.sees(behind, Kind::Comma) {
+                return Ok((found, behind));
+            }
+            at = behind + 1;
+        }
+        Err(Fail::Refused(self.refusal(at)))
+    }
+
+    /// The fields of a type from their first name on, and the place behind their `;`. The first token is
+    /// that of the modifiers or of the type.
+    #[tactic(auto, unfolding(crate::specs::Reading::field))]
+    pub fn field(
+        &self,
+        first: u32,
+        modifiers: Items<Modifier>,
+        type_name: TypeName,
+        at: u32,
+    ) -> Result<(Declared, u32), Fail>
+        ensures { Reads (reading.field self.now.tokens.now first modifiers type_name at) result }
+    {
+        let (declarators, end) = self.declarators(at)?;
+        self.expect(end, Kind::Semicolon)?;
+        let place = self.span(first);
+        let field = Field {
+            place,
+            modifiers,
+            type_name,
+            declarators,
+        };
+        Ok((Declared::Field(field), end + 1))
+    }
+}
