@@ -1,14 +1,5 @@
 pub mod Endings
-pub mod Fitting
 pub mod Lines
-pub mod Pieces
-pub mod Reaching
-pub mod ReadAnswers
-pub mod ReadComplete
-pub mod ReadSound
-pub mod ReadTokens
-pub mod ReadWorked
-pub mod SpelledTokens
-pub mod SpelledWords
+pub mod Refusing
+pub mod SourceAnswers
 pub mod Telling
-pub mod Walking

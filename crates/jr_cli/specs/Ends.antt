@@ -1,12 +1,14 @@
 -- How a call ends: what came of it has its cause, and is what was told.
-use Rattle.std.specs.Prelude.{◌≡◌, ◌==◌, ◌⊎◌, ℕ, cond, List, Option, None, IsSomeAnd}
+use Rattle.std.specs.Prelude.{◌≡◌, ◌==◌, ◌⊎◌, ℕ, cond, List, [], ◌∷◌, ◌++◌, Option, None, IsSomeAnd}
 use Rattle.jr_io.specs.declared.sink.Piece.TheVariants.{Whole, WriteFault}
 use Rattle.jr_io.specs.Writes.{WritesPiece}
-use Rattle.jr_journal.specs.Program.{Program}
+use Rattle.jr_base.specs.declared.refusal.Refusal.{Refusal}
+use Rattle.jr_ast.specs.Programs.{Program, program_of}
 use Rattle.jr_cli.specs.declared.words.Command.{Command}
 use Rattle.jr_cli.specs.declared.outcome.Outcome.{Outcome}
 use Rattle.jr_cli.specs.declared.ended.Ended.{Ended}
-use Rattle.jr_cli.specs.Causes.{Reading, HasCause, RefusesTooLong, CountsReading}
+use Rattle.jr_cli.specs.Causes.{Reading, Refuses, HasCause, RefusesTooLong, CountsReading}
+use Rattle.jr_report.specs.Refusals.{refusal_line}
 use Rattle.jr_cli.specs.Texts.{Tells}
 
 -- a count before and after a call
@@ -40,4 +42,12 @@ HadNoMemory ended = (ended.run ≡ None) × (ended.refusal ≡ None) × IsStatus
 
 -- the run is one of that program
 abbrev pub Runs : Ended → Program → Type 0
-Runs ended program = IsSomeAnd ended.run (λ run. run.opening.unit ≡ program)
+Runs ended program = IsSomeAnd ended.run (λ run. program_of run.opening.unit ≡ program)
+
+-- The source is refused for a cause, no program is run, and what was written is the refusal's line.
+pub record IsRefusal (reading : Reading) (writing : Writing) (ended : Ended) (refusal : Refusal) : Type 0 where
+  pub source : List ℕ
+  pub cause : Refuses reading source refusal
+  pub status : IsStatus ended.status 3
+  pub no_run : ended.run ≡ None
+  pub written : IsWritten writing ended.status (refusal_line source refusal ++ 10 ∷ [])

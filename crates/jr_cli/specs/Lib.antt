@@ -1,10 +1,5 @@
 pub mod Causes
 pub mod Command
 pub mod Ends
-pub mod Fits
-pub mod Reached
-pub mod Reading
-pub mod Reads
-pub mod Spelling
+pub mod Sources
 pub mod Texts
-pub mod Walk

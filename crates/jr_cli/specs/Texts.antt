@@ -1,7 +1,5 @@
 -- What is written of what came of a call, and its status.
-use Rattle.std.specs.Prelude.{◌≡◌, ◌==◌, ◌&&◌, ℕ, cond, List, [], Option, Some, None, codes, sum_by}
-use Rattle.jr_base.specs.declared.refusal.Refusal.{Refusal}
-use Rattle.jr_base.specs.declared.refusal.Refusal.TheVariants.{TooLong, NoMain, NotBuilt}
+use Rattle.std.specs.Prelude.{◌≡◌, ◌==◌, ◌&&◌, ◌≤◌, ℕ, cond, List, [], ◌∷◌, ◌++◌, length, Option, Some, None, codes, sum_by}
 use Rattle.jr_base.specs.declared.finish.Finish.{Finish}
 use Rattle.jr_base.specs.declared.finish.Finish.TheVariants.{Finished, Deadlock, Budget, Limit, Memory}
 use Rattle.jr_io.specs.declared.sink.Piece.{Piece}
@@ -14,31 +12,32 @@ use Rattle.jr_journal.specs.Report.{report, bytes_of_lines, violations_in, uncau
 use Rattle.jr_cli.specs.declared.outcome.Outcome.{Outcome}
 use Rattle.jr_cli.specs.declared.outcome.Outcome.TheVariants.{Usage, ReadFault, Refused, OutOfMemory, Ran}
 use Rattle.jr_cli.specs.declared.ended.Ended.{Ended}
+use Rattle.jr_cli.specs.Causes.{refusal_in}
+use Rattle.jr_journal.specs.Layout.{FollowTheirSteps}
+use Rattle.jr_report.specs.Refusals.{refusal_line}
+use Rattle.jr_ast.specs.Programs.{program_of}
 
--- what can be told: a refusal that comes of a source, or a right record
+-- in the journal of a run each step's verdicts stand directly behind it
+abbrev pub IsLaidOut : Outcome → Type 0
+IsLaidOut (Ran run) = FollowTheirSteps (program_of run.opening.unit) run.journal.entries
+IsLaidOut _ = Unit {0}
+
+-- what can be told: a refusal of a source that isn't too long to have places in it, or a right record that is
+-- laid out so
 abbrev pub IsTellable : Outcome → Type 0
-IsTellable (Refused TooLong) = Unit {0}
-IsTellable (Refused NoMain) = Unit {0}
-IsTellable (Refused NotBuilt) = Unit {0}
-IsTellable (Refused _) = ⊥
-IsTellable (Ran run) = IsRightRecord run.opening.unit run.opening.budget run
+IsTellable (Refused refusal source) = length source.items ≤ 1048576
+IsTellable (Ran run) =
+    IsRightRecord (program_of run.opening.unit) run.opening.budget run × FollowTheirSteps (program_of run.opening.unit) run.journal.entries
 IsTellable _ = Unit {0}
-
--- the line of a refusal; the others don't come of a source yet
-abbrev pub refusal_text : Refusal → List ℕ
-refusal_text TooLong = codes "refused TooLong\n"
-refusal_text NoMain = codes "refused NoMain\n"
-refusal_text NotBuilt = codes "refused NotBuilt\n"
-refusal_text _ = []
 
 -- the report of a run
 abbrev pub report_text : RunRecord → List ℕ
-report_text run = bytes_of_lines (report run.opening.unit run.journal.entries run.finish)
+report_text run = bytes_of_lines (report (program_of run.opening.unit) run.journal.entries run.finish)
 
 abbrev pub text_of : Outcome → List ℕ
 text_of Usage = codes "usage: jmlrac run --serial 0 < SOURCE\n"
 text_of ReadFault = codes "read fault\n"
-text_of (Refused refusal) = refusal_text refusal
+text_of (Refused refusal source) = refusal_line source.items refusal ++ 10 ∷ []
 text_of OutOfMemory = codes "out of memory\n"
 text_of (Ran run) = report_text run
 
@@ -53,7 +52,7 @@ run_status (Limit kind guest count) h = 9
 
 abbrev pub status_of : Outcome → ℕ
 status_of Usage = 2
-status_of (Refused refusal) = 3
+status_of (Refused refusal source) = 3
 status_of ReadFault = 4
 status_of OutOfMemory = 7
 status_of (Ran run) = run_status run.finish run.journal.entries
@@ -62,10 +61,6 @@ status_of (Ran run) = run_status run.finish run.journal.entries
 abbrev pub status_told : Outcome → Piece → ℕ
 status_told outcome Whole = status_of outcome
 status_told outcome WriteFault = 5
-
-abbrev pub refusal_in : Outcome → Option Refusal
-refusal_in (Refused refusal) = Some refusal
-refusal_in _ = None
 
 abbrev pub run_in : Outcome → Option RunRecord
 run_in (Ran run) = Some run

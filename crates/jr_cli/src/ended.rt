@@ -3,16 +3,16 @@
 ghost use Rattle.std.specs.Prelude.{◌≡◌, ◌≤◌};
 ghost use Rattle.jr_io.specs.Writes.{WritesPiece, CountsPieceFault};
 ghost use Rattle.jr_journal.specs.Right.{IsRightRecord};
-ghost use Rattle.jr_cli.specs.Texts.{IsTellable, text_of, refusal_text, status_of, run_status, Tells};
+ghost use Rattle.jr_cli.specs.Texts.{IsTellable, text_of, status_of, run_status, Tells};
 
 use crate::outcome::Outcome;
-use crate::report::{count_all, write_report};
 use jr_base::{Finish, Refusal};
 use jr_io::{Piece, Sink, write_piece};
 use jr_journal::RunRecord;
+use jr_report::{count_all, write_refusal, write_report};
 
 /// How a call ended.
-#[derive(Debug, Drop)]
+#[derive(Drop)]
 pub struct Ended {
     /// From 0 to 9, as `docs/OUTPUT.md` lists them.
     pub status: u8,
@@ -50,7 +50,7 @@ pub fn tell<K: Sink>(outcome: Outcome, sink: &mut K) -> Ended
         Piece::WriteFault => Status::WriteFault as u8,
     };
     match outcome {
-        Outcome::Refused(refusal) => Ended {
+        Outcome::Refused(refusal, _source) => Ended {
             status,
             refusal: Some(refusal),
             run: None,
@@ -78,22 +78,9 @@ fn write_outcome<K: Sink>(outcome: &Outcome, sink: &mut K) -> Piece
     match outcome {
         Outcome::Usage => write_piece(sink, USAGE.as_bytes()),
         Outcome::ReadFault => write_piece(sink, b"read fault\n"),
-        Outcome::Refused(refusal) => write_piece(sink, text_of_refusal(*refusal).as_bytes()),
+        Outcome::Refused(refusal, source) => write_refusal(source.as_slice(), *refusal, sink),
         Outcome::OutOfMemory => write_piece(sink, b"out of memory\n"),
         Outcome::Ran(run) => write_report(run, sink),
-    }
-}
-
-// The line of a refusal. No other comes of a source yet.
-fn text_of_refusal(refusal: Refusal) -> &'static str
-    requires { IsTellable (Outcome.Refused refusal) }
-    ensures { result.now ≡ refusal_text refusal }
-{
-    match refusal {
-        Refusal::TooLong => "refused TooLong\n",
-        Refusal::NoMain => "refused NoMain\n",
-        Refusal::NotBuilt => "refused NotBuilt\n",
-        _ => unreachable!(),
     }
 }
 
@@ -104,7 +91,7 @@ fn status_of_outcome(outcome: &Outcome) -> u8
     let status = match outcome {
         Outcome::Usage => Status::Usage,
         Outcome::ReadFault => Status::ReadFault,
-        Outcome::Refused(_) => Status::Refused,
+        Outcome::Refused(..) => Status::Refused,
         Outcome::OutOfMemory => Status::Memory,
         Outcome::Ran(run) => return status_of_run(run),
     };

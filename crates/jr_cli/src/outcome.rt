@@ -3,11 +3,12 @@
 ghost use Rattle.std.specs.Prelude.{◌≡◌, Some, IsNone};
 ghost use Rattle.jr_cli.specs.Command.{line};
 ghost use Rattle.jr_cli.specs.Causes.{HasCause, RefusesTooLong, CountsReading};
+ghost use Rattle.jr_cli.specs.Texts.{IsLaidOut};
 
-use crate::drive::drive;
-use crate::reader::read_class;
+use crate::source::program_of_source;
 use crate::words::{Command, Words};
 use jr_base::{Fail, Refusal};
+use jr_drive::drive;
 use jr_io::{ReadFail, Source, read_all};
 use jr_journal::RunRecord;
 use std::alloc::Global;
@@ -22,8 +23,8 @@ pub enum Outcome {
     Usage,
     /// The source could not be read.
     ReadFault,
-    /// The source is refused.
-    Refused(Refusal),
+    /// The source is refused, and these are its bytes; none where it is too long.
+    Refused(Refusal, Vec<u8>),
     /// There was no memory for the run to begin.
     OutOfMemory,
     /// The program ran.
@@ -39,6 +40,7 @@ pub fn outcome_of<S: Source>(alloc: Global, words: &Words, source: &mut S) -> Ou
         (record { left = S.left source.old; taken_before = S.taken source.old; taken = S.taken source.new; ended = S.ended source.new })
         result }
     ensures faults { CountsReading (S.faults source.old) (S.faults source.new) result }
+    ensures layout { IsLaidOut result }
     ensures unread { IsNone (line words.now) → source.new ≡ source.old }
 {
     match words.command() {
@@ -56,17 +58,18 @@ fn run_source<S: Source>(alloc: Global, source: &mut S, command: Command) -> Out
         (record { left = S.left source.old; taken_before = S.taken source.old; taken = S.taken source.new; ended = S.ended source.new })
         result }
     ensures faults { CountsReading (S.faults source.old) (S.faults source.new) result }
+    ensures layout { IsLaidOut result }
 {
     let Command::RunSerial { seed: _, budget } = command;
     let bytes = match read_all(alloc, source, SOURCE_LIMIT) {
         Ok(bytes) => bytes,
         Err(ReadFail::ReadFault) => return Outcome::ReadFault,
-        Err(ReadFail::TooLong) => return Outcome::Refused(Refusal::TooLong),
+        Err(ReadFail::TooLong) => return Outcome::Refused(Refusal::TooLong, Vec::new(alloc)),
         Err(ReadFail::Memory) => return Outcome::OutOfMemory,
     };
-    match read_class(alloc, bytes.as_slice()) {
+    match program_of_source(alloc, bytes.as_slice()) {
         Ok(unit) => Outcome::Ran(drive(alloc, unit, budget)),
-        Err(Fail::Refused(refusal)) => Outcome::Refused(refusal),
+        Err(Fail::Refused(refusal)) => Outcome::Refused(refusal, bytes),
         Err(Fail::Memory) => Outcome::OutOfMemory,
     }
 }

@@ -5,14 +5,14 @@ ghost use Rattle.jr_io.specs.Faults.{Rose};
 ghost use Rattle.jr_base.specs.declared.refusal.Refusal.TheVariants as refusals;
 ghost use Rattle.jr_journal.specs.Right.{IsRightRecord};
 ghost use Rattle.jr_cli.specs.Command.{line};
-ghost use Rattle.jr_cli.specs.Causes.{HasCause, ReadWhole, budget_of};
-ghost use Rattle.jr_cli.specs.Spelling.{Spells};
-ghost use Rattle.jr_cli.specs.Ends.{Ends, IsStatus, IsWritten, Runs, HadNoMemory};
-ghost use Rattle.jr_journal.specs.Program.{Program};
-ghost use Rattle.jr_cli.specs.Texts.{report_text, refusal_text, run_status};
+ghost use Rattle.jr_cli.specs.Causes.{ReadWhole, budget_of};
+ghost use Rattle.jr_cli.specs.Sources.{Spells};
+ghost use Rattle.jr_cli.specs.Ends.{Ends, IsStatus, IsWritten, IsRefusal, Runs, HadNoMemory};
+ghost use Rattle.jr_ast.specs.Programs.{Program, program_of};
+ghost use Rattle.jr_cli.specs.Texts.{report_text, run_status};
 
 use crate::ended::{Ended, tell};
-use crate::outcome::{Outcome, outcome_of};
+use crate::outcome::outcome_of;
 use crate::words::Words;
 use jr_base::Finish;
 use jr_io::{Sink, Source};
@@ -29,10 +29,10 @@ pub fn jmlrac_quiet<S: Source, K: Sink>(
     // A run that is returned is right: its history is legal, each clause due was judged once, with its value
     // on the heap of its step, and its finish is the true one. Its program is the one that the source spells,
     // and what is written is its report.
-    ensures headline { IfSome result.run (λ run. IsSomeAnd (line words.now) (λ command. IsRightRecord run.opening.unit (budget_of command) run)) }
+    ensures headline { IfSome result.run (λ run. IsSomeAnd (line words.now) (λ command. IsRightRecord (program_of run.opening.unit) (budget_of command) run)) }
     ensures accepted { IfSome result.run (λ run. ReadWhole
         (record { left = S.left source.old; taken_before = S.taken source.old; taken = S.taken source.new; ended = S.ended source.new })
-        (λ bytes. Spells bytes run.opening.unit)) }
+        (λ bytes. Spells bytes (program_of run.opening.unit))) }
     ensures report { IfSome result.run (λ run. IsWritten
         (record { before = K.written sink.old; now = K.written sink.new })
         result.status (report_text run)) }
@@ -54,12 +54,10 @@ pub fn jmlrac_quiet<S: Source, K: Sink>(
     ensures unread { IsNone (line words.now) → source.new ≡ source.old }
 
     // 3 where the source is refused, for a cause.
-    ensures refused { IfSome result.refusal (λ refusal.
-        HasCause (line words.now)
+    ensures refused { IfSome result.refusal (λ refusal. IsRefusal
         (record { left = S.left source.old; taken_before = S.taken source.old; taken = S.taken source.new; ended = S.ended source.new })
-        (Outcome.Refused refusal)
-        × IsStatus result.status 3 × (result.run ≡ None)
-        × IsWritten (record { before = K.written sink.old; now = K.written sink.new }) result.status (refusal_text refusal)) }
+        (record { before = K.written sink.old; now = K.written sink.new })
+        result refusal) }
     ensures refused_only { result.status ≡ 3 → IsSome result.refusal }
     ensures too_long { S.taken source.old + 1048576 < S.taken source.new → result.refusal ≡ Some refusals.TooLong }
 

@@ -1,8 +1,9 @@
 //! The worked runs, from bytes to bytes, and what each status prints.
 
 use super::*;
-use jr_base::{Finish, Refusal};
+use jr_base::{Action, Finish};
 use jr_io::{MemSink, MemSource};
+use jr_journal::{Entry, RunRecord};
 use std::alloc::Global;
 use std::process::Abort;
 use std::test::Fail;
@@ -11,6 +12,20 @@ const SEVEN: &str = "class A { public static void main(String[] args) { System.o
 
 const SEVEN_REPORT: &str =
     "out 1: 7\nfinish Finished\nsteps 4, guests 1, verdicts 0, violations 0, uncaught 0\n";
+
+/// Twice a field, which is to be positive.
+const TWICE: &str = "class A {
+  static int n = 2;
+  //@ requires x > 0;
+  static int twice(int x) { return x + x; }
+  public static void main(String[] args) {
+    System.out.println(twice(n));
+  }
+}
+";
+
+const TWICE_REPORT: &str =
+    "out 1: 4\nfinish Finished\nsteps 7, guests 1, verdicts 1, violations 0, uncaught 0\n";
 
 const SERIAL: [&str; 3] = ["run", "--serial", "0"];
 
@@ -64,23 +79,229 @@ fn runs_a_class_that_prints(rt: HostRuntime) -> Result<(), Fail> {
 }
 
 #[test]
-fn refuses_other_sources(rt: HostRuntime) -> Result<(), Fail> {
-    let empty: &[u8] = b"";
-    for (source, refusal, written) in [
-        (empty, Refusal::NoMain, "refused NoMain\n"),
-        (b" \t\n\r\x0c", Refusal::NoMain, "refused NoMain\n"),
-        (b"class A { }", Refusal::NoMain, "refused NoMain\n"),
+fn judges_a_call(rt: HostRuntime) -> Result<(), Fail> {
+    check(&rt, &SERIAL, TWICE.as_bytes(), (0, 0), 0, TWICE_REPORT)?;
+    let zero = "class A {
+  static int n = 0;
+  //@ requires x > 0;
+  static int twice(int x) { return x + x; }
+  public static void main(String[] args) {
+    System.out.println(twice(n));
+  }
+}
+";
+    let report = "out 1: 0
+violation 1: requires False at 3:7, guest 1, step 2
+finish Finished
+steps 7, guests 1, verdicts 1, violations 1, uncaught 0
+";
+    check(&rt, &SERIAL, zero.as_bytes(), (0, 0), 1, report)?;
+    let ended = check(&rt, &SERIAL, TWICE.as_bytes(), (0, 2), 5, "out 1: 4\n")?;
+    let Some(run) = ended.run else {
+        return Err(Fail::from("no run"));
+    };
+    assert_eq!(rt; (run.journal.len(), run.finish), (8, Finish::Finished));
+    Ok(())
+}
+
+#[test]
+fn runs_methods_over_fields(rt: HostRuntime) -> Result<(), Fail> {
+    for (source, status, written) in [
         (
-            b"class A { int x; }",
-            Refusal::NotBuilt,
+            "class A { static int n = 2; static int twice(int x) { return x + x; }
+             public static void main(String[] args) { System.out.println(twice(n)); } }",
+            0,
+            "out 1: 4\nfinish Finished\nsteps 7, guests 1, verdicts 0, violations 0, uncaught 0\n",
+        ),
+        (
+            "class A { static int n; static void set(int x) { n = x; } static int get() { return n; }
+             public static void main(String[] args) { set(7); System.out.println(get() - -1); } }",
+            3,
             "refused NotBuilt\n",
         ),
-        (b"/* x", Refusal::NotBuilt, "refused NotBuilt\n"),
-        (b"\xff", Refusal::NotBuilt, "refused NotBuilt\n"),
+        (
+            "class A { static int n = -3; static void set(int x) { n = x; } static int get() { return n; }
+             public static void main(String[] args) { System.out.println(n); set(7); System.out.println(get()); } }",
+            0,
+            "out 1: -3\nout 1: 7\nfinish Finished\nsteps 12, guests 1, verdicts 0, violations 0, uncaught 0\n",
+        ),
+        (
+            "class A { static int n = 2147483647;
+             public static void main(String[] args) { System.out.println(n + 1); System.out.println(0 - n - 2); } }",
+            0,
+            "out 1: -2147483648\nout 1: 2147483647\nfinish Finished\nsteps 7, guests 1, verdicts 0, violations 0, uncaught 0\n",
+        ),
+        (
+            "class A { static int f(int x) { x = x + 1; return x; } /* a comment */
+             public static void main(String[] args) { System.out.println(f(f(1) + f(2))); } }",
+            0,
+            "out 1: 6\nfinish Finished\nsteps 10, guests 1, verdicts 0, violations 0, uncaught 0\n",
+        ),
+    ] {
+        check(&rt, &SERIAL, source.as_bytes(), (0, 0), status, written)?;
+    }
+    Ok(())
+}
+
+#[test]
+fn judges_each_clause_at_each_call(rt: HostRuntime) -> Result<(), Fail> {
+    for (source, status, written) in [
+        (
+            "class A {
+  static int n;
+  //@ requires n == 1; requires n != 1;
+  //@ requires n < x; requires n <= x; requires n > x; requires n >= x;
+  //@ requires -1 < n;
+  static void f(int x) { }
+  public static void main(String[] args) { f(0); }
+}
+",
+            3,
+            "refused NotBuilt\n",
+        ),
+        (
+            "class A {
+  static int n;
+  static void set(int x) { n = x; }
+  //@ requires n == 1; requires n != 1;
+  //@ requires n < x; requires n <= x; requires n > x; requires n >= x;
+  //@ requires 0 == 0; requires 0 == 0; requires 0 == 0; requires 0 == 0; requires 0 == 0;
+  //@ requires 0 == 0; requires 0 == 0; requires 0 == 0; requires 0 == 0;
+  //@ requires n + x == 2;
+  static void f(int x) { }
+  public static void main(String[] args) { f(1); set(1); f(1); }
+}
+",
+            1,
+            "violation 1: requires False at 4:7, guest 1, step 1
+violation 2: requires False at 5:40, guest 1, step 1
+violation 3: requires False at 5:56, guest 1, step 1
+violation 4: requires False at 8:7, guest 1, step 1
+violation 5: requires False at 4:24, guest 1, step 6
+violation 6: requires False at 5:7, guest 1, step 6
+violation 7: requires False at 5:40, guest 1, step 6
+finish Finished
+steps 10, guests 1, verdicts 32, violations 7, uncaught 0
+",
+        ),
+        (
+            "class A {
+  static int least = -2147483647;
+  //@ requires least - 1 < 2147483647; requires least - 1 - 1 == 2147483647;
+  //@ requires 2147483647 > x; requires 2147483647 + 1 <= x; requires x - 1 > x;
+  static void f(int x) { }
+  public static void main(String[] args) { f(least - 1); }
+}
+",
+            0,
+            "finish Finished\nsteps 6, guests 1, verdicts 5, violations 0, uncaught 0\n",
+        ),
+    ] {
+        check(&rt, &SERIAL, source.as_bytes(), (0, 0), status, written)?;
+    }
+    Ok(())
+}
+
+#[test]
+fn stops_at_the_budget(rt: HostRuntime) -> Result<(), Fail> {
+    let mut source = String::new(rt.alloc());
+    source.push_str("class A { static void m0() { }\n")?;
+    for below in 0..16 {
+        let n = below + 1;
+        write!(source, "static void m{n}() {{ m{below}(); m{below}(); }}\n")?;
+    }
+    source.push_str("public static void main(String[] args) { m16(); } }")?;
+    check(
+        &rt,
+        &SERIAL,
+        source.as_bytes(),
+        (0, 0),
+        6,
+        "finish Budget 200000\nsteps 200000, guests 1, verdicts 0, violations 0, uncaught 0\n",
+    )?;
+    Ok(())
+}
+
+// The actions of a run, in words.
+fn words_of_actions(alloc: Global, run: &RunRecord) -> Result<String, Fail> {
+    let mut words = String::new(alloc);
+    for at in 0..run.journal.len() {
+        if let Entry::Step { action, reply, .. } = run.journal.entry(at) {
+            match action {
+                Action::Call { method, args, .. } => {
+                    write!(words, "call {} {:?}; ", method.0, args.as_slice())?;
+                }
+                Action::Leave { method, how } => write!(words, "leave {} {how:?}; ", method.0)?,
+                Action::Get(cell) => write!(words, "get {} {reply:?}; ", cell.slot)?,
+                Action::Put(cell, value) => write!(words, "put {} {value:?}; ", cell.slot)?,
+                Action::Print(parts) => write!(words, "print {:?}; ", parts.as_slice())?,
+                Action::End(how) => write!(words, "end {how:?}")?,
+                _ => words.push_str("other; ")?,
+            }
+        }
+    }
+    Ok(words)
+}
+
+#[test]
+fn evaluates_from_left_to_right(rt: HostRuntime) -> Result<(), Fail> {
+    let source = "class A { static int b = 5; static int c = 3;
+        static int g(int x) { c = x; return x - 1; }
+        static int f(int x, int y, int z) { return x; }
+        public static void main(String[] args) { b = f(c, g(b), c + b); } }";
+    let report = "finish Finished\nsteps 13, guests 1, verdicts 0, violations 0, uncaught 0\n";
+    let ended = check(&rt, &SERIAL, source.as_bytes(), (0, 0), 0, report)?;
+    let Some(run) = ended.run else {
+        return Err(Fail::from("no run"));
+    };
+    let words = words_of_actions(rt.alloc(), &run)?;
+    let expected = "call 2 []; get 1 Value(Int(3)); get 0 Value(Int(5)); call 0 [Int(5)]; \
+        put 1 Int(5); leave 0 Normal(Some(Int(4))); get 1 Value(Int(5)); get 0 Value(Int(5)); \
+        call 1 [Int(3), Int(4), Int(10)]; leave 1 Normal(Some(Int(3))); put 0 Int(3); \
+        leave 2 Normal(None); end Normal";
+    assert_eq!(rt; words.as_str(), expected);
+    Ok(())
+}
+
+#[test]
+fn refuses_other_sources(rt: HostRuntime) -> Result<(), Fail> {
+    let empty: &[u8] = b"";
+    for (source, written) in [
+        (empty, "refused NoMain\n"),
+        (b" \t\n\r\x0c", "refused NoMain\n"),
+        (b"class A { }", "refused NoMain\n"),
+        (b"class A { int x; }", "refused NotBuilt\n"),
+        (b"/* x", "refused OpenComment at 1:1\n"),
+        (b"\xff", "refused BadUtf8 at 1:1\n"),
+        (
+            b"class A { int x = 3000000000; }",
+            "refused BigLiteral at 1:19\n",
+        ),
+        (b"class A { int x = 1a; }", "refused BadToken at 1:19\n"),
+        (b"class A {\n  #\n}", "refused BadToken at 2:3\n"),
+        (
+            b"class A {\n  static void f(int x) { x = 1 < 2 < 3; }\n}",
+            "refused Syntax at 2:36\n",
+        ),
+        (
+            b"class A { static void f() { switch (1) { } } }",
+            "refused NotInProfile switch at 1:29\n",
+        ),
+        (
+            b"class A { int x = 2147483648; }",
+            "refused BigLiteral at 1:19\n",
+        ),
+        (
+            b"class A { static int x = (1); }",
+            "refused Syntax at 1:26\n",
+        ),
+        (
+            b"import a.b; class A { void f() { for (;;) ; } }",
+            "refused NotBuilt\n",
+        ),
     ] {
         let ended = check(&rt, &SERIAL, source, (0, 0), 3, written)?;
-        assert_eq!(rt; ended.refusal, Some(refusal));
-        assert!(rt; ended.run.is_none());
+        assert!(rt; ended.refusal.is_some() && ended.run.is_none());
     }
     Ok(())
 }

@@ -5,7 +5,7 @@ use Rattle.jr_base.specs.declared.number.GuestNo.{GuestNo}
 use Rattle.jr_base.specs.declared.action.Reply.{Reply}
 use Rattle.jr_journal.specs.Along.{Along, Each}
 use Rattle.jr_journal.specs.Event.{Event, Step, Judged}
-use Rattle.jr_journal.specs.Program.{Program}
+use Rattle.jr_ast.specs.Programs.{Program}
 use Rattle.jr_journal.specs.World.{World, after, start_world}
 use Rattle.jr_journal.specs.History.{world_from, world_after, replies_of, step_count, steps_in, MayCome, IsLegal}
 use Rattle.std.proofs.lemmas.List.Sums.{sum_by_push}

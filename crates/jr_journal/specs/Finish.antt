@@ -6,7 +6,7 @@ use Rattle.jr_base.specs.declared.number.GuestNo.{GuestNo}
 use Rattle.jr_base.specs.declared.finish.Finish.{Finish}
 use Rattle.jr_base.specs.declared.finish.Finish.TheVariants.{Finished, Deadlock, Budget, Limit, Memory}
 use Rattle.jr_journal.specs.Event.{Event}
-use Rattle.jr_journal.specs.Program.{Program}
+use Rattle.jr_ast.specs.Programs.{Program}
 use Rattle.jr_journal.specs.World.{Guest, is_live, is_ready}
 use Rattle.jr_journal.specs.History.{world_after, next_of, step_count}
 use Rattle.jr_journal.specs.Next.{Wants}

@@ -7,7 +7,7 @@ use Rattle.jr_base.specs.declared.action.Body.{Body}
 use Rattle.jr_base.specs.declared.action.Reply.{Reply}
 use Rattle.jr_journal.specs.Along.{Each}
 use Rattle.jr_journal.specs.Event.{Event, Step, Judged}
-use Rattle.jr_journal.specs.Program.{Program}
+use Rattle.jr_ast.specs.Programs.{Program}
 use Rattle.jr_journal.specs.World.{World, Guest, start_world, guest_at, is_live, is_ready, Answers, after}
 use Rattle.jr_journal.specs.Next.{Next, Wants, next}
 

@@ -2,8 +2,8 @@ pub mod Along
 pub mod Event
 pub mod Finish
 pub mod History
+pub mod Layout
 pub mod Next
-pub mod Program
 pub mod Report
 pub mod Right
 pub mod Verdicts

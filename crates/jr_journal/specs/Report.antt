@@ -1,7 +1,8 @@
 -- The text of a report, line by line.
-use Rattle.std.specs.Prelude.{ℕ, ◌+◌, true, false, List, [], ◌∷◌, ◌++◌, length, flat_map, codes, decimal, sum_by}
+use Rattle.std.specs.Prelude.{ℕ, zero, suc, ◌+◌, true, false, List, [], ◌∷◌, ◌++◌, length, flat_map, codes, decimal, sum_by, Option, Some, None}
 use Rattle.std.specs.Fmt.{signed_decimal}
 use Rattle.jr_base.specs.Deed.{Print, End}
+use Rattle.jr_base.specs.declared.number.ClauseId.{ClauseId}
 use Rattle.jr_base.specs.declared.number.GuestNo.{GuestNo}
 use Rattle.jr_base.specs.declared.action.PrintPart.{PrintPart}
 use Rattle.jr_base.specs.declared.action.PrintPart.TheVariants.{Text, Val}
@@ -14,10 +15,14 @@ use Rattle.jr_base.specs.declared.finish.Fault.{Fault}
 use Rattle.jr_base.specs.declared.finish.Fault.TheVariants as faults
 use Rattle.jr_base.specs.declared.finish.LimitKind.{LimitKind}
 use Rattle.jr_base.specs.declared.finish.LimitKind.TheVariants as kinds
+use Rattle.jr_base.specs.declared.finish.Verdict.{Verdict}
 use Rattle.jr_base.specs.declared.finish.Verdict.TheVariants as verdicts
+use Rattle.jr_ast.specs.declared.typed.ClauseKind.{ClauseKind}
+use Rattle.jr_ast.specs.declared.typed.ClauseKind.TheVariants.{Requires}
 use Rattle.jr_journal.specs.Event.{Event, Step, Judged}
-use Rattle.jr_journal.specs.Program.{Program}
+use Rattle.jr_ast.specs.Programs.{Program, Clause, clause_at}
 use Rattle.jr_journal.specs.History.{world_after, step_count, steps_in}
+use Rattle.jr_journal.specs.Verdicts.{Moment, due_at, moment_of, verdict_of}
 
 -- what println writes of a value: no program prints a reference
 abbrev pub value_text : Value → List ℕ
@@ -44,9 +49,71 @@ out_lines_of _ = []
 abbrev pub out_lines : List Event → List (List ℕ)
 out_lines h = flat_map out_lines_of h
 
--- A line for each verdict other than True, by step and place. A program that can be run yet has no clause.
+-- ---- violations
+
+-- a clause due at a step that isn't known to hold there
+pub record Violation : Type 0 where
+  pub clause : ClauseId
+  pub value : Verdict
+  pub guest : GuestNo
+  pub step : ℕ
+
+-- a verdict other than True is a violation
+abbrev pub violation_in : ClauseId → GuestNo → ℕ → Option Verdict → List Violation
+violation_in clause g k None = []
+violation_in clause g k (Some verdicts.True) = []
+violation_in clause g k (Some value) = record { clause = clause; value = value; guest = g; step = k } ∷ []
+
+-- of the clauses due at step k, which stand there from a place on, by place
+abbrev pub violations_from : List Event → GuestNo → ℕ → ℕ → List ClauseId → List Violation
+violations_from h g k place [] = []
+violations_from h g k place (clause ∷ clauses) = violation_in clause g k (verdict_of h k place) ++ violations_from h g k (place + 1) clauses
+
+-- of step k, if that is its moment
+abbrev pub violations_at : Program → List Event → ℕ → Option Moment → List Violation
+violations_at program h k None = []
+violations_at program h k (Some moment) = violations_from h moment.guest k 0 (due_at program moment)
+
+-- of the first n steps, by step
+abbrev pub violations_before : Program → List Event → ℕ → List Violation
+violations_before program h zero = []
+violations_before program h (suc n) = violations_before program h n ++ violations_at program h n (moment_of h n)
+
+-- by step and place, in whatever order they were judged
+abbrev pub violations : Program → List Event → List Violation
+violations program h = violations_before program h (step_count h)
+
+abbrev pub clause_kind_text : ClauseKind → List ℕ
+clause_kind_text Requires = codes "requires"
+
+abbrev pub verdict_text : Verdict → List ℕ
+verdict_text verdicts.True = codes "True"
+verdict_text verdicts.False = codes "False"
+verdict_text verdicts.Undefined = codes "Undefined"
+verdict_text verdicts.Wide = codes "Wide"
+
+-- A clause with its value, and where its keyword stands. A clause that is due is there in each program that
+-- passed the checks.
+abbrev pub clause_text : Option Clause → Verdict → List ℕ
+clause_text None value = []
+clause_text (Some clause) value =
+    clause_kind_text clause.kind ++ codes " " ++ verdict_text value
+    ++ codes " at " ++ decimal clause.place.line ++ codes ":" ++ decimal clause.place.column
+
+abbrev pub violation_line : Program → ℕ → Violation → List ℕ
+violation_line program n violation =
+    codes "violation " ++ decimal n ++ codes ": " ++ clause_text (clause_at program violation.clause) violation.value
+    ++ codes ", guest " ++ decimal violation.guest.0 ++ codes ", step " ++ decimal violation.step
+
+-- a line for each, with the next number from n on
+abbrev pub numbered_lines : Program → ℕ → List Violation → List (List ℕ)
+numbered_lines program n [] = []
+numbered_lines program n (violation ∷ more) = violation_line program n violation ∷ numbered_lines program (n + 1) more
+
 abbrev pub violation_lines : Program → List Event → List (List ℕ)
-violation_lines program h = []
+violation_lines program h = numbered_lines program 1 (violations program h)
+
+-- ---- guests that an exception ended
 
 abbrev pub fault_name : Fault → List ℕ
 fault_name faults.Exception = codes "Exception"

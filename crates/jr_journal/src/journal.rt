@@ -3,7 +3,7 @@
 ghost use Rattle.std.specs.Prelude.{◌≡◌, ◌==◌, ◌+◌, ◌<◌, ◌≤◌, [], ◌∷◌, ◌++◌, length, OnOk, slice_get, Some};
 ghost use Rattle.jr_journal.specs.Event.{event_of};
 
-use crate::tree::TypedUnit;
+use jr_ast::TypedUnit;
 use jr_base::{Action, Finish, GuestNo, Memory, Reply, Reserved, Stamp, Verdict};
 use std::alloc::Global;
 use std::marker::Model;
@@ -26,7 +26,7 @@ pub enum Entry {
 }
 
 /// What a run began with: the program, and how many steps it may make.
-#[derive(Debug, Drop)]
+#[derive(Drop)]
 pub struct Opening {
     pub unit: TypedUnit,
     pub budget: u32,
@@ -101,7 +101,7 @@ impl Journal {
 }
 
 /// A run that has ended: what it began with, all its entries, and how it ended.
-#[derive(Debug, Drop)]
+#[derive(Drop)]
 pub struct RunRecord {
     pub opening: Opening,
     pub journal: Journal,

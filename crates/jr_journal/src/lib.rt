@@ -1,12 +1,10 @@
-//! What a run is: the program that runs, the journal of its steps and verdicts, and the definitions
-//! that say which journals are right. Its one promise: a journal is the list of what was pushed.
+//! What a run is: the journal of its steps and verdicts, and the definitions that say which journals are
+//! right. Its one promise: a journal is the list of what was pushed.
 //! `specs/` has the guest machine: the world, a guest's next action, legal histories, right verdicts,
 //! true finishes, the report and right records.
 #![tactic(auto)]
 
 pub mod journal;
 pub mod laws;
-pub mod tree;
 
 pub use journal::{Entry, Journal, Opening, RunRecord};
-pub use tree::{Statement, TypedUnit};

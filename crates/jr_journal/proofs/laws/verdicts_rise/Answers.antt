@@ -1,0 +1,5 @@
+use Rattle.jr_journal.proofs.Reports.{verdicts-rise}
+use Rattle.jr_journal.proofs.laws.verdicts_rise.Goals as goal
+
+pub returns : goal.returns
+returns c = verdicts-rise

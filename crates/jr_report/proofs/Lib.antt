@@ -1,0 +1,4 @@
+pub mod Fitting
+pub mod Passes
+pub mod Pieces
+pub mod RefusalLines

@@ -1,5 +1,0 @@
-class Seven {
-  public static void main(String[] args) {
-    System.out.println(7);
-  }
-}
