@@ -306,6 +306,84 @@ fn refuses_other_sources(rt: HostRuntime) -> Result<(), Fail> {
     Ok(())
 }
 
+// A front, so many opening signs, a middle, as many closing ones, and a back.
+fn nested(
+    alloc: Global,
+    front: &str,
+    signs: (u8, u8),
+    count: u32,
+    middle: &str,
+    back: &str,
+) -> Result<Vec<u8>, Fail> {
+    let mut text = Vec::new(alloc);
+    text.extend_from_slice(front.as_bytes())?;
+    for _ in 0..count {
+        text.push(signs.0)?;
+    }
+    text.extend_from_slice(middle.as_bytes())?;
+    for _ in 0..count {
+        text.push(signs.1)?;
+    }
+    text.extend_from_slice(back.as_bytes())?;
+    Ok(text)
+}
+
+#[test]
+fn refuses_deep_sources(rt: HostRuntime) -> Result<(), Fail> {
+    let body = "class A { public static void main(String[] a) ";
+    let sum = "class A { static int f() { return ";
+    let clause = "class A { /*@ requires ";
+    let method = "; @*/ static void f() { } }";
+    for (front, signs, count, middle, back, written) in [
+        (body, (b'{', b'}'), 130, "", " }", "refused NotBuilt\n"),
+        (
+            body,
+            (b'{', b'}'),
+            131,
+            "",
+            " }",
+            "refused TooDeep at 1:177\n",
+        ),
+        (sum, (b'(', b')'), 127, "1", "; } }", "refused NotBuilt\n"),
+        (
+            sum,
+            (b'(', b')'),
+            128,
+            "1",
+            "; } }",
+            "refused TooDeep at 1:163\n",
+        ),
+        (
+            clause,
+            (b'(', b')'),
+            128,
+            "true",
+            method,
+            "refused NotBuilt\n",
+        ),
+        (
+            clause,
+            (b'(', b')'),
+            129,
+            "true",
+            method,
+            "refused TooDeep at 1:153\n",
+        ),
+        (
+            sum,
+            (b'(', b')'),
+            500_000,
+            "1",
+            "; } }",
+            "refused TooDeep at 1:163\n",
+        ),
+    ] {
+        let source = nested(rt.alloc(), front, signs, count, middle, back)?;
+        check(&rt, &SERIAL, source.as_slice(), (0, 0), 3, written)?;
+    }
+    Ok(())
+}
+
 #[test]
 fn refuses_a_source_that_is_too_long(rt: HostRuntime) -> Result<(), Fail> {
     let mut blanks = vec![in rt.alloc(); b' '; 1_048_576]?;
