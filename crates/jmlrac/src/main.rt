@@ -2,13 +2,22 @@
 //! Its part is to hand them to the top call; what a terminal, file or pipe held is no clause of it.
 #![tactic(auto)]
 
-ghost use Rattle.std.specs.Prelude.{◌≡◌};
+ghost use Rattle.std.specs.Prelude.{◌≡◌, ◌≢◌, [], IfSome, IsSome, IsSomeAnd};
+ghost use Rattle.jr_io.specs.Faults.{Rose};
+ghost use Rattle.jr_io.specs.StdSink.{held_back};
+ghost use Rattle.jr_ast.specs.Programs.{program_of};
+ghost use Rattle.jr_journal.specs.FirstForm.Right.{IsRightRecord};
+ghost use Rattle.jr_cli.specs.Command.{line};
+ghost use Rattle.jr_cli.specs.Causes.{budget_of};
+ghost use Rattle.jr_cli.specs.Ends.{IsStatus};
+ghost use Rattle.jr_cli.specs.Texts.{run_status};
 
 use jr_base::Memory;
-use jr_cli::{Words, jmlrac_quiet};
-use jr_io::{Piece, StdSink, StdSource};
+use jr_cli::{Ended, Words, jmlrac_quiet};
+use jr_io::{Piece, Sink, Source, StdSink, StdSource};
+use std::alloc::Global;
 use std::env;
-use std::io::ErrorKind;
+use std::io::{ErrorKind, Write};
 use std::process::ExitCode;
 use std::rt::Runtime;
 
@@ -19,8 +28,8 @@ const WRITE_FAULT: u8 = 5;
 const OUT_OF_MEMORY: u8 = 7;
 
 fn main(rt: HostRuntime) -> ExitCode {
-    match run(&rt) {
-        Ok(status) => ExitCode::from(status),
+    match run_real(&rt) {
+        Ok(ended) => ExitCode::from(ended.status),
         Err(Memory) => {
             let _ = println!(rt; "out of memory");
             ExitCode::from(OUT_OF_MEMORY)
@@ -28,24 +37,36 @@ fn main(rt: HostRuntime) -> ExitCode {
     }
 }
 
-// Hands the real words, source and sink to the top call.
-fn run(rt: &HostRuntime) -> Result<u8, Memory> {
+// The run of the real words, source and sink.
+fn run_real(rt: &HostRuntime) -> Result<Ended, Memory> {
     let words = words_of(rt)?;
     let mut source = StdSource::new(rt.stdin());
     let mut sink = StdSink::new(rt.alloc(), rt.stdout())?;
-    let ended = jmlrac_quiet(rt.alloc(), &words, &mut source, &mut sink);
-    Ok(exit_status(ended.status, sink.finish()))
+    Ok(run(rt.alloc(), &words, &mut source, &mut sink))
 }
 
-// The status of the process, where `last` is how the last write ended.
-fn exit_status(status: u8, last: Piece) -> u8
-    ensures whole { last ≡ Piece.Whole → result ≡ status }
-    ensures write_fault { last ≡ Piece.WriteFault → result ≡ 5 }
+// Hands the words, the source and the sink to the top call, and all that was written on to the writer. The answer is
+// that of the call, but with the status of a failed write where this last write failed.
+fn run<S: Source, W: Write + Drop>(
+    alloc: Global,
+    words: &Words,
+    source: &mut S,
+    sink: &mut StdSink<W>,
+) -> Ended
+    // A run that is returned is right, and the status is its own, as that of a refusal is, unless a write failed.
+    ensures headline { IfSome result.run (λ run. IsSomeAnd (line words.now) (λ command. IsRightRecord (program_of run.opening.unit) (budget_of command) run)) }
+    ensures status_of_run { IfSome result.run (λ run. IsStatus result.status (run_status run.finish run.journal.entries)) }
+    ensures ran { result.status ≢ 2 → result.status ≢ 3 → result.status ≢ 4 → result.status ≢ 5 → result.status ≢ 7 → IsSome result.run }
+    ensures refused { IfSome result.refusal (λ refusal. IsStatus result.status 3) }
+    // 5 where a write failed, the last one too. Else nothing is held back.
+    ensures write_fault { result.status ≡ 5 → Rose (⟦<StdSink<W> as Sink>⟧.faults sink.old) (⟦<StdSink<W> as Sink>⟧.faults sink.new) }
+    ensures whole { result.status ≢ 5 → held_back sink.new ≡ [] }
 {
-    match last {
-        Piece::Whole => status,
-        Piece::WriteFault => WRITE_FAULT,
+    let mut ended = jmlrac_quiet(alloc, words, source, sink);
+    if let Piece::WriteFault = sink.finish() {
+        ended.status = WRITE_FAULT;
     }
+    ended
 }
 
 // The words after the program's name.

@@ -9,8 +9,7 @@ use Rattle.jr_lexer.specs.Lexical.{tokens}
 use Rattle.jr_lexer.specs.Answers.{Answers}
 use Rattle.jr_lexer.specs.Refusals.{is_lexical, RefusesLexically}
 use Rattle.jr_lexer.proofs.Refused.{of_tokens}
-use Rattle.jr_ast.specs.declared.typed.TypedUnit.{TypedUnit}
-use Rattle.jr_ast.specs.Programs.{Program, program_of}
+use Rattle.jr_ast.specs.Programs.{Program}
 use Rattle.jr_ast.specs.Units.{Class}
 use Rattle.jr_unit_parser.specs.Grammar.{SpellsUnit}
 use Rattle.jr_unit_parser.specs.Answers.{Fits, Refuses, Answers as AnswersUnit}
@@ -82,7 +81,3 @@ refused_form bytes ts classes (Refused NotBuilt) lexed spelled form = not_built 
   form = form;
 })
 refused_form bytes ts classes (Refused _) lexed spelled form = absurd form
-
-pub accepted : (bytes : List ℕ) (ts : List Token) (classes : List Class) (unit : TypedUnit) → tokens bytes ≡ Ok ts → Fits ts classes →
-    form_of bytes classes ≡ OfProgram (program_of unit) → Reads bytes (Ok unit)
-accepted bytes ts classes unit lexed spelled form = record { classes = classes; unit = record { read = ts; lexed = lexed; spelled = spelled }; form = form }

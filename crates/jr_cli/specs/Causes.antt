@@ -4,7 +4,7 @@ use Rattle.jr_base.specs.declared.refusal.Refusal.{Refusal}
 use Rattle.jr_base.specs.declared.refusal.Refusal.TheVariants.{TooLong}
 use Rattle.jr_ast.specs.Programs.{program_of}
 use Rattle.jr_io.specs.Faults.{Rose}
-use Rattle.jr_journal.specs.Right.{IsRightRecord}
+use Rattle.jr_journal.specs.FirstForm.Right.{IsRightRecord}
 use Rattle.jr_cli.specs.declared.words.Command.{Command}
 use Rattle.jr_cli.specs.declared.words.Command.TheVariants.{RunSerial}
 use Rattle.jr_cli.specs.declared.outcome.Outcome.{Outcome}

@@ -1,5 +1,5 @@
 -- What the bytes of a source mean: the program that they spell, or why they are refused.
-use Rattle.std.specs.Prelude.{◌≡◌, ℕ, IsTrue, List, Result, Ok, Err}
+use Rattle.std.specs.Prelude.{◌≡◌, ◌≤◌, ℕ, IsTrue, List, length, Result, Ok, Err}
 use Rattle.jr_base.specs.declared.refusal.Refusal.{Refusal}
 use Rattle.jr_base.specs.declared.refusal.Refusal.TheVariants.{NoMain, NotBuilt}
 use Rattle.jr_base.specs.declared.refusal.Fail.{Fail}
@@ -19,8 +19,9 @@ pub record SpellsClasses (bytes : List ℕ) (classes : List Class) : Type 0 wher
   pub lexed : tokens bytes ≡ Ok read
   pub spelled : Fits read classes
 
--- the bytes spell a unit that can be run, and it is this program
+-- the bytes, not more than a source may have, spell a unit that can be run, and it is this program
 pub record Spells (bytes : List ℕ) (program : Program) : Type 0 where
+  pub short : length bytes ≤ 1048576
   pub classes : List Class
   pub unit : SpellsClasses bytes classes
   pub form : form_of bytes classes ≡ OfProgram program

@@ -2,7 +2,7 @@
 
 ghost use Rattle.std.specs.Prelude.{◌≡◌, ◌≤◌};
 ghost use Rattle.jr_io.specs.Writes.{WritesPiece, CountsPieceFault};
-ghost use Rattle.jr_journal.specs.Right.{IsRightRecord};
+ghost use Rattle.jr_journal.specs.FirstForm.Right.{IsRightRecord};
 ghost use Rattle.jr_cli.specs.Texts.{IsTellable, text_of, status_of, run_status, Tells};
 
 use crate::outcome::Outcome;

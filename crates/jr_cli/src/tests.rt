@@ -299,6 +299,55 @@ fn refuses_other_sources(rt: HostRuntime) -> Result<(), Fail> {
             b"import a.b; class A { void f() { for (;;) ; } }",
             "refused NotBuilt\n",
         ),
+        (
+            b"class A { static long n; public static void main(String[] args) { } }",
+            "refused NotBuilt\n",
+        ),
+        (
+            b"class A { static int n = 1L; public static void main(String[] args) { } }",
+            "refused NotBuilt\n",
+        ),
+        (
+            b"class A { static long[] n; public static void main(String[] args) { } }",
+            "refused NotBuilt\n",
+        ),
+        (
+            b"class A { static void f(long x) { } public static void main(String[] args) { } }",
+            "refused NotBuilt\n",
+        ),
+        (
+            b"class A { static long f() { return 1; } public static void main(String[] args) { } }",
+            "refused NotBuilt\n",
+        ),
+        (
+            b"class A { static void f() { long x = 1; } public static void main(String[] args) { } }",
+            "refused NotBuilt\n",
+        ),
+        (
+            b"class A { public static void main(String[] args) { System.out.println(1l); } }",
+            "refused NotBuilt\n",
+        ),
+        (
+            b"class A { /*@ requires 1L > 0; @*/ static void f() { } public static void main(String[] args) { } }",
+            "refused NotBuilt\n",
+        ),
+        (
+            b"/*@ spec_safe_math @*/ class A { public static void main(String[] args) { } }",
+            "refused NotBuilt\n",
+        ),
+        (
+            b"class A { /*@ spec_java_math @*/ static void f() { } public static void main(String[] args) { } }",
+            "refused NotBuilt\n",
+        ),
+        (
+            b"class A { static int n = 9223372036854775809L; }",
+            "refused BigLiteral at 1:26\n",
+        ),
+        (
+            b"class A { static int n = 9223372036854775808L; }",
+            "refused BigLiteral at 1:26\n",
+        ),
+        (b"class A { int x = 1LL; }", "refused BadToken at 1:19\n"),
     ] {
         let ended = check(&rt, &SERIAL, source, (0, 0), 3, written)?;
         assert!(rt; ended.refusal.is_some() && ended.run.is_none());

@@ -17,11 +17,11 @@ use Rattle.jr_base.specs.declared.finish.Finish.{Finish}
 use Rattle.jr_base.specs.declared.finish.Finish.TheVariants.{Finished, Deadlock, Budget, Limit, Memory}
 use Rattle.jr_ast.specs.Programs.{Program, main_of}
 use Rattle.jr_journal.specs.Event.{Event}
-use Rattle.jr_journal.specs.World.{World, Guest, cells_of, written, put, put_reply, main_body, is_live, is_ready, Answers, after}
-use Rattle.jr_journal.specs.Next.{Wants, next, next_in, guest_run, cell_of}
-use Rattle.jr_journal.specs.History.{MayStep, world_after, replies_of, body_of, next_of}
-use Rattle.jr_journal.specs.Verdicts.{step_judged}
-use Rattle.jr_journal.specs.Finish.{CanStep}
+use Rattle.jr_journal.specs.FirstForm.World.{World, Guest, cells_of, written, put, put_reply, main_body, is_live, is_ready, Answers, after}
+use Rattle.jr_journal.specs.FirstForm.Next.{Wants, next, next_in, guest_run, cell_of}
+use Rattle.jr_journal.specs.FirstForm.History.{MayStep, world_after, replies_of, body_of, next_of}
+use Rattle.jr_journal.specs.FirstForm.Verdicts.{step_judged}
+use Rattle.jr_journal.specs.FirstForm.Finish.{CanStep}
 use Rattle.jr_journal.proofs.Judging.{steps-more, world-more, replies-more, legal-more, right-more, owes-nothing-more}
 use Rattle.jr_drive.specs.declared.driver.Stepped.TheVariants.{Stop}
 use Rattle.jr_drive.specs.declared.frame.Act.{Act}

@@ -8,7 +8,7 @@ use Rattle.jr_base.specs.declared.number.MethodId.{MethodId}
 use Rattle.jr_base.specs.declared.number.FieldId.{FieldId}
 use Rattle.jr_base.specs.declared.value.Value.{Value}
 use Rattle.jr_ast.specs.Programs.{Program, Method, Statement, SetLocal, SetField, Do, Println, Expr, Number, Local, Field, Plus, Minus, CallOf, Exprs, no_more, and_then, exprs, expr_view, method_at}
-use Rattle.jr_journal.specs.Next.{Tape, Variables, Out, Got, Stops, NoTurns, then_do, ask, Calls, eval, eval_all, exec, block, returns, body, call, ending, value_read}
+use Rattle.jr_journal.specs.FirstForm.Next.{Tape, Variables, Out, Got, Stops, NoTurns, then_do, ask, Calls, eval, eval_all, exec, block, returns, body, call, ending, value_read}
 use Rattle.jr_journal.proofs.Bounds.{call-whole}
 use Rattle.jr_drive.specs.declared.frame.Act.{Act}
 use Rattle.jr_drive.specs.declared.frame.Act.TheVariants as acts

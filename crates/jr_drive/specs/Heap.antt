@@ -5,7 +5,7 @@ use Rattle.jr_base.specs.declared.action.Reply.{Reply}
 use Rattle.jr_base.specs.declared.action.Reply.TheVariants as replies
 use Rattle.jr_base.specs.declared.value.Value.{Value}
 use Rattle.jr_base.specs.declared.value.Cell.{Cell}
-use Rattle.jr_journal.specs.World.{cells_of, get_reply, put_reply}
+use Rattle.jr_journal.specs.FirstForm.World.{cells_of, get_reply, put_reply}
 
 -- what the machine replies
 abbrev pub reply_to : List Value → Deed → Reply

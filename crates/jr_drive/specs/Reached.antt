@@ -8,14 +8,14 @@ use Rattle.jr_base.specs.declared.finish.Finish.{Finish}
 use Rattle.jr_base.specs.declared.finish.Finish.TheVariants.{Finished, Memory}
 use Rattle.jr_ast.specs.Programs.{Program}
 use Rattle.jr_journal.specs.Event.{Event}
-use Rattle.jr_journal.specs.World.{World, cells_of, main_body}
-use Rattle.jr_journal.specs.Next.{Tape, guest_run}
-use Rattle.jr_journal.specs.History.{IsLegal, world_after, replies_of, step_count}
-use Rattle.jr_journal.specs.Verdicts.{IsRight, OwesNothing, due_of, step_judged}
-use Rattle.jr_journal.specs.Finish.{IsTrueFinish}
+use Rattle.jr_journal.specs.FirstForm.World.{World, cells_of, main_body}
+use Rattle.jr_journal.specs.FirstForm.Next.{Tape, guest_run}
+use Rattle.jr_journal.specs.FirstForm.History.{IsLegal, world_after, replies_of, step_count}
+use Rattle.jr_journal.specs.FirstForm.Verdicts.{IsRight, OwesNothing, due_of, step_judged}
+use Rattle.jr_journal.specs.FirstForm.Finish.{IsTrueFinish}
 use Rattle.jr_drive.specs.declared.driver.Stepped.{Stepped}
 use Rattle.jr_drive.specs.declared.driver.Stepped.TheVariants.{Did, Stop}
-use Rattle.jr_journal.specs.Layout.{FollowTheirSteps}
+use Rattle.jr_journal.specs.FirstForm.Layout.{FollowTheirSteps}
 use Rattle.jr_drive.specs.Heap.{reply_to, fields_after}
 use Rattle.jr_drive.specs.Walk.{Stand, stand_view, stand_run, stand_deed, is_over, Resumes}
 

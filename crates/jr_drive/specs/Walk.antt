@@ -10,7 +10,7 @@ use Rattle.jr_base.specs.declared.action.PrintPart.TheVariants.{Val}
 use Rattle.jr_base.specs.declared.value.Value.{Value}
 use Rattle.jr_base.specs.declared.value.Value.TheVariants.{Int}
 use Rattle.jr_ast.specs.Programs.{Program, Method, Statement, SetLocal, SetField, Do, Println, Expr, Number, Local, Field, Plus, Minus, CallOf, Exprs, no_more, and_then, method_at, expr_view, statement_view}
-use Rattle.jr_journal.specs.Next.{Tape, Variables, Out, Got, then_do, ask, value_read, sum_of, difference_of, variable, cell_of, used, Calls, eval, exec, call, ending}
+use Rattle.jr_journal.specs.FirstForm.Next.{Tape, Variables, Out, Got, then_do, ask, value_read, sum_of, difference_of, variable, cell_of, used, Calls, eval, exec, call, ending}
 use Rattle.jr_drive.specs.declared.frame.Act.{Act}
 use Rattle.jr_drive.specs.declared.frame.Act.TheVariants as acts
 use Rattle.jr_drive.specs.declared.frame.Task.{Task as CodeTask}

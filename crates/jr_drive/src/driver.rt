@@ -3,9 +3,9 @@
 ghost use Rattle.std.specs.Prelude.{◌≡◌, [], ◌++◌, IfOk, MatchOption, Some, None};
 ghost use Rattle.jr_base.specs.Deed.{deed_of};
 ghost use Rattle.jr_ast.specs.Programs.{main_of, program_of};
-ghost use Rattle.jr_journal.specs.Right.{IsRightRecord};
-ghost use Rattle.jr_journal.specs.Verdicts.{step_judged};
-ghost use Rattle.jr_journal.specs.Layout.{FollowTheirSteps};
+ghost use Rattle.jr_journal.specs.FirstForm.Right.{IsRightRecord};
+ghost use Rattle.jr_journal.specs.FirstForm.Verdicts.{step_judged};
+ghost use Rattle.jr_journal.specs.FirstForm.Layout.{FollowTheirSteps};
 ghost use Rattle.jr_drive.specs.Heap.{reply_to, fields_after};
 ghost use Rattle.jr_drive.specs.Walk.{stand_view, stand_deed};
 ghost use Rattle.jr_drive.specs.Reached.{Before, HasRoom, RunsTo, StepsTo, main_guest, start_fields};

@@ -3,7 +3,7 @@
 ghost use Rattle.std.specs.Prelude.{◌≡◌, IfOk, map};
 ghost use Rattle.jr_base.specs.declared.value.Value.TheVariants.{Int};
 ghost use Rattle.jr_base.specs.Deed.{deed_of};
-ghost use Rattle.jr_journal.specs.World.{cells_of};
+ghost use Rattle.jr_journal.specs.FirstForm.World.{cells_of};
 ghost use Rattle.jr_drive.specs.Heap.{reply_to, fields_put, fields_after};
 
 use jr_base::{Action, Cell, Memory, ObjId, Reply, Value};

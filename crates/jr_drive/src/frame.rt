@@ -4,7 +4,7 @@ ghost use Rattle.std.specs.Prelude.{◌≡◌, [], ◌∷◌, map, Some, OnOk, I
 ghost use Rattle.std.specs.Option.{option_map};
 ghost use Rattle.jr_ast.specs.Programs.{exprs, expr_view, shape_whole, statement_view, method_view, program_of};
 ghost use Rattle.jr_base.specs.Deed.{deed_of};
-ghost use Rattle.jr_journal.specs.Next.{variable, cell_of, value_read};
+ghost use Rattle.jr_journal.specs.FirstForm.Next.{variable, cell_of, value_read};
 ghost use Rattle.jr_drive.specs.Stacks.{below};
 ghost use Rattle.jr_drive.specs.Walk.{Evaluate, plan, task_view, frame_view, called, body_tasks, execute_all, evaluate_all, call_tasks, evaluated, executed, unfolded, give, pushed, left_with, act_deed, Settles, top};
 

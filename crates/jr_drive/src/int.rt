@@ -1,7 +1,7 @@
 //! Numbers of the program that runs.
 
 ghost use Rattle.std.specs.Prelude.{◌≡◌};
-ghost use Rattle.jr_journal.specs.Next.{number_of, sum_of, difference_of};
+ghost use Rattle.jr_journal.specs.FirstForm.Next.{number_of, sum_of, difference_of};
 
 use jr_base::Value;
 

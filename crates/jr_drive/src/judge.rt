@@ -5,8 +5,8 @@ ghost use Rattle.std.specs.Int.{w32, int_wrap};
 ghost use Rattle.std.specs.Option.{option_map, option_copied};
 ghost use Rattle.jr_base.specs.Deed.{deed_of};
 ghost use Rattle.jr_ast.specs.Programs.{program_of, expr_view, shape_whole, relation_view, clause_view, clause_at, preconditions_of};
-ghost use Rattle.jr_journal.specs.World.{cells_of};
-ghost use Rattle.jr_journal.specs.Verdicts.{due_of, number_in, of_both, expr_value, compares, verdict_on, relation_value, clause_value, judged_from};
+ghost use Rattle.jr_journal.specs.FirstForm.World.{cells_of};
+ghost use Rattle.jr_journal.specs.FirstForm.Verdicts.{due_of, number_in, of_both, expr_value, compares, verdict_on, relation_value, clause_value, judged_from};
 
 use jr_ast::{Comparison, Relation, TypedExpr, TypedShape, TypedUnit};
 use jr_base::{Action, ClauseId, Memory, MethodId, Stamp, Value, Verdict};

@@ -7,7 +7,7 @@ use Rattle.jr_base.specs.declared.refusal.Refusal.TheVariants.{TooDeep}
 use Rattle.jr_lexer.specs.declared.kind.Kind.{Kind}
 use Rattle.jr_lexer.specs.declared.kind.Kind.TheVariants as k
 use Rattle.jr_lexer.specs.Token.{Token}
-use Rattle.jr_lexer.specs.Reading.{number_at}
+use Rattle.jr_lexer.specs.Reading.{value_at, big_at}
 use Rattle.jr_ast.specs.declared.operator.Prefix.{Prefix}
 use Rattle.jr_ast.specs.declared.operator.Postfix.{Postfix}
 use Rattle.jr_ast.specs.declared.operator.Infix.{Infix}
@@ -253,7 +253,7 @@ module _ (jml : Bool) (ts : List Token) where
   pub record Opens (l i : ℕ) : Type 0 where
     pub top : l ≤ 18
     pub start : starts (seen jml ts i) ≡ true
-    pub small : seen jml ts i ≡ k.Integer → number_at ts i ≡ 2147483648 → ⊥
+    pub small : seen jml ts i ≡ k.Integer → value_at ts i ≡ big_at ts i → ⊥
     pub bare : 17 ≤ l → prefix_of jml (seen jml ts i) ≡ None
 
   by_kind : (i : ℕ) (a : Kind) → seen jml ts i ≡ a → starts a ≡ true → same_kind a k.Integer ≡ false → prefix_of jml a ≡ None → Opens 18 i

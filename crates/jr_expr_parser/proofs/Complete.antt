@@ -6,7 +6,7 @@ use Rattle.std.proofs.lemmas.Slice.Eq.{bytes_eq-Decides}
 use Rattle.jr_lexer.specs.declared.kind.Kind.{Kind}
 use Rattle.jr_lexer.specs.declared.kind.Kind.TheVariants as k
 use Rattle.jr_lexer.specs.Token.{Token}
-use Rattle.jr_lexer.specs.Reading.{number_at, span_at, text_at}
+use Rattle.jr_lexer.specs.Reading.{value_at, big_at, span_at, text_at}
 use Rattle.jr_ast.specs.declared.name.ElementType.{ElementType}
 use Rattle.jr_ast.specs.declared.operator.Prefix.{Prefix}
 use Rattle.jr_ast.specs.declared.operator.Prefix.TheVariants.{Negate}
@@ -19,7 +19,7 @@ use Rattle.jr_ast.specs.Expressions.{Expr, exprs}
 use Rattle.jr_ast.specs.Expressions as e
 use Rattle.jr_expr_parser.specs.declared.operators.Grouping.{Grouping}
 use Rattle.jr_expr_parser.specs.declared.operators.Grouping.TheVariants.{Assigns, Chooses, Implies, Once, ToTheLeft}
-use Rattle.jr_expr_parser.specs.Seen.{seen, name_at}
+use Rattle.jr_expr_parser.specs.Seen.{seen, name_at, literal_at}
 use Rattle.jr_expr_parser.specs.Operators.{prefix_of, postfix_of, infix_of, assignment_of, bound_of, quantifier_of, element_of, reach, grouping_of}
 use Rattle.jr_expr_parser.specs.Nesting.{nesting, nesting_in, is_new_array, is_implied_by}
 use Rattle.jr_expr_parser.specs.Grammar.{Spells, Arguments, Listed, Conjuncts}
@@ -258,15 +258,15 @@ module _ (jml : Bool) (ts : List Token) where
     unfolding r.is_least
     not_least_by i h = rw h refl
 
-    not_least_behind : (i : ℕ) → (seen jml ts (i + 1) ≡ k.Integer → number_at ts (i + 1) ≡ 2147483648 → ⊥) → r.is_least jml ts i ≡ false
+    not_least_behind : (i : ℕ) → (seen jml ts (i + 1) ≡ k.Integer → value_at ts (i + 1) ≡ big_at ts (i + 1) → ⊥) → r.is_least jml ts i ≡ false
     unfolding r.is_least
-    not_least_behind i f = go (r.sees jml ts i k.Minus) (r.sees jml ts (i + 1) k.Integer) (eqb (number_at ts (i + 1)) 2147483648) refl refl
+    not_least_behind i f = go (r.sees jml ts i k.Minus) (r.sees jml ts (i + 1) k.Integer) (eqb (value_at ts (i + 1)) (big_at ts (i + 1))) refl refl
       where
-        go : (x y z : Bool) → r.sees jml ts (i + 1) k.Integer ≡ y → eqb (number_at ts (i + 1)) 2147483648 ≡ z → cond x (cond y z false) false ≡ false
+        go : (x y z : Bool) → r.sees jml ts (i + 1) k.Integer ≡ y → eqb (value_at ts (i + 1)) (big_at ts (i + 1)) ≡ z → cond x (cond y z false) false ≡ false
         go false y z h v = refl
         go true false z h v = refl
         go true true false h v = refl
-        go true true true h v = absurd (f (seen_is jml ts (i + 1) k.Integer h) (eqb-true (number_at ts (i + 1)) 2147483648 v))
+        go true true true h v = absurd (f (seen_is jml ts (i + 1) k.Integer h) (eqb-true (value_at ts (i + 1)) (big_at ts (i + 1)) v))
 
     -- an operand with no operator before it
     complete_of : (q i j : ℕ) (a : Expr) → Opens jml ts 17 i → Found c q 17 i a j → Found c q 16 i a j
@@ -288,13 +288,13 @@ module _ (jml : Bool) (ts : List Token) where
         (or_some _ _ _ op _ _ _ h
         (on c (suc c) (nesting a) _ _ (a, j) _ _ (λ z. omega arith) (u s c) refl)))
 
-    least_found : (q i : ℕ) → seen jml ts i ≡ k.Minus → seen jml ts (i + 1) ≡ k.Integer → number_at ts (i + 1) ≡ 2147483648 → Found c q 16 i (e.Prefixed (span_at ts i) Negate (e.Integer (span_at ts (i + 1)) 2147483648)) (i + 2)
+    least_found : (q i : ℕ) → seen jml ts i ≡ k.Minus → seen jml ts (i + 1) ≡ k.Integer → value_at ts (i + 1) ≡ big_at ts (i + 1) → Found c q 16 i (e.Prefixed (span_at ts i) Negate (e.Integer (span_at ts (i + 1)) (literal_at ts (i + 1)))) (i + 2)
     unfolding r.levels r.unary
     least_found q i h n v =
-        not_left q 16 i (i + 2) (e.Prefixed (span_at ts i) Negate (e.Integer (span_at ts (i + 1)) 2147483648)) (omega arith) (λ le. absurd (omega arith))
+        not_left q 16 i (i + 2) (e.Prefixed (span_at ts i) Negate (e.Integer (span_at ts (i + 1)) (literal_at ts (i + 1)))) (omega arith) (λ le. absurd (omega arith))
         (λ s.
         if_true _ _ _ _ _ _ (is_least_by jml ts i h n v)
-        (on (suc c) (suc c) (nesting (e.Prefixed (span_at ts i) Negate (e.Integer (span_at ts (i + 1)) 2147483648))) _ _ (e.Prefixed (span_at ts i) Negate (e.Integer (span_at ts (i + 1)) 2147483648)) _ _ (λ z. z) (fits_agrees c (span_at ts i) _) refl))
+        (on (suc c) (suc c) (nesting (e.Prefixed (span_at ts i) Negate (e.Integer (span_at ts (i + 1)) (literal_at ts (i + 1))))) _ _ (e.Prefixed (span_at ts i) Negate (e.Integer (span_at ts (i + 1)) (literal_at ts (i + 1)))) _ _ (λ z. z) (fits_agrees c (span_at ts i) _) refl))
 
     tighter_found : (q l i j : ℕ) (a : Expr) → Opens jml ts (suc l) i → Found c q (suc l) i a j → Found c q l i a j
     tighter_found q l i j a o f = go (leb l 15) (eqb l 16) refl refl
@@ -325,9 +325,9 @@ module _ (jml : Bool) (ts : List Token) where
         on c (suc c) (nesting a) _ _ (a, j) _ _ (λ z. omega arith) (u c)
         (on_ok _ _ _ tt _ _ (expected jml ts j close h) refl)
 
-    integer_found : (q i : ℕ) → seen jml ts i ≡ k.Integer → number_at ts i < 2147483648 → Found c q 18 i (e.Integer (span_at ts i) (number_at ts i)) (i + 1)
+    integer_found : (q i : ℕ) → seen jml ts i ≡ k.Integer → value_at ts i < big_at ts i → Found c q 18 i (e.Integer (span_at ts i) (literal_at ts i)) (i + 1)
     unfolding r.integer
-    integer_found q i h low = primary_found q i (i + 1) _ k.Integer h (λ s. let b : ltb (number_at ts i) 2147483648 ≡ true = grind arith in if_true _ _ _ _ _ _ b refl)
+    integer_found q i h low = primary_found q i (i + 1) _ k.Integer h (λ s. let b : ltb (value_at ts i) (big_at ts i) ≡ true = grind arith in if_true _ _ _ _ _ _ b refl)
 
     not_call : (j : ℕ) → (jml ≡ false → seen jml ts j ≡ k.OpenParen → ⊥) → r.is_call jml ts j ≡ false
     unfolding r.is_call

@@ -3,6 +3,7 @@ use Rattle.std.proofs.Common.{◌≡◌, ℕ, zero, suc, ◌+◌, ◌-◌, ◌�
 use Rattle.std.specs.Prelude.{codes}
 use Rattle.std.specs.Str.{bytes_eq}
 use Rattle.std.proofs.lemmas.Bool.{eqb-true}
+use Rattle.std.proofs.lemmas.Bool.Decides.{Decides-eqb}
 use Rattle.std.proofs.lemmas.List.{append-nil}
 use Rattle.std.proofs.lemmas.Slice.Eq.{bytes_eq-Decides}
 use Rattle.jr_base.specs.declared.number.Span.{Span}
@@ -11,7 +12,7 @@ use Rattle.jr_base.specs.declared.refusal.Refusal.TheVariants as refusal
 use Rattle.jr_lexer.specs.declared.kind.Kind.{Kind}
 use Rattle.jr_lexer.specs.declared.kind.Kind.TheVariants as k
 use Rattle.jr_lexer.specs.Token.{Token}
-use Rattle.jr_lexer.specs.Reading.{kind_at, jml_at, number_at, span_at, text_at}
+use Rattle.jr_lexer.specs.Reading.{kind_at, jml_at, value_at, big_at, span_at, text_at}
 use Rattle.jr_ast.specs.declared.operator.Infix.{Infix}
 use Rattle.jr_ast.specs.declared.expr.Bound.{Bound}
 use Rattle.jr_ast.specs.declared.expr.Quantifier.{Quantifier}
@@ -144,11 +145,11 @@ module _ (jml : Bool) (ts : List Token) where
   abbrev pub Below : ℕ → (ℕ → ℕ → ℕ → Outcome Expr) → Type 0
   Below room nest = (q l i : ℕ) → l ≤ 16 → i ≤ length ts → Good (Spelt room q l i) room i (nest q l i)
 
-  -- ---- `-2147483648`, and the levels of the groupings of one level
+  -- ---- `-` and a big literal, and the levels of the groupings of one level
 
-  pub is_least_by : (i : ℕ) → seen jml ts i ≡ k.Minus → seen jml ts (i + 1) ≡ k.Integer → number_at ts (i + 1) ≡ 2147483648 → r.is_least jml ts i ≡ true
+  pub is_least_by : (i : ℕ) → seen jml ts i ≡ k.Minus → seen jml ts (i + 1) ≡ k.Integer → value_at ts (i + 1) ≡ big_at ts (i + 1) → r.is_least jml ts i ≡ true
   unfolding r.is_least r.sees
-  is_least_by i m n v = rw (is_same (seen jml ts i) k.Minus m, is_same (seen jml ts (i + 1)) k.Integer n, v) refl
+  is_least_by i m n v = rw (is_same (seen jml ts i) k.Minus m, is_same (seen jml ts (i + 1)) k.Integer n, (Decides-eqb (value_at ts (i + 1)) (big_at ts (i + 1))).1 v) refl
 
   pub level_of_assigns : (l : ℕ) → grouping_of l ≡ Assigns → l ≡ 1
   unfolding grouping_of
@@ -379,11 +380,11 @@ module _ (jml : Bool) (ts : List Token) where
     integer_good : (q i : ℕ) → seen jml ts i ≡ k.Integer → Good (Spelt (suc room) q 18 i) (suc room) i (r.integer jml ts i)
     unfolding r.integer
     integer_good q i h =
-        if_good (Spelt (suc room) q 18 i) (suc room) i (ltb (number_at ts i) 2147483648) _ _
-        (λ c. let low : number_at ts i < 2147483648 = grind arith in (g.integer h low, omega arith))
+        if_good (Spelt (suc room) q 18 i) (suc room) i (ltb (value_at ts i) (big_at ts i)) _ _
+        (λ c. let low : value_at ts i < big_at ts i = grind arith in (g.integer h low, omega arith))
         (λ c.
-        if_good (Spelt (suc room) q 18 i) (suc room) i (eqb (number_at ts i) 2147483648) _ _
-        (λ d. record { at = i; behind = omega arith; span = refl; literal = h; number = eqb-true (number_at ts i) 2147483648 d; before = inl refl })
+        if_good (Spelt (suc room) q 18 i) (suc room) i (eqb (value_at ts i) (big_at ts i)) _ _
+        (λ d. record { at = i; behind = omega arith; span = refl; literal = h; number = eqb-true (value_at ts i) (big_at ts i) d; before = inl refl })
         (λ d. refused (suc room) i i (omega arith)))
 
     -- ---- quantifiers
@@ -576,26 +577,26 @@ module _ (jml : Bool) (ts : List Token) where
     unfolding r.postfixed
     postfixed_good q i = then (Spelt (suc room) q 18 i) (Spelt (suc room) q 17 i) (suc room) i _ _ (suffixed_good q i) (λ y s. behind_good q (length ts) i y.1 y.0 (g.tighter s.0, s.1))
 
-    least_by : (i : ℕ) (b : Bool) → r.sees jml ts i k.Minus ≡ b → cond b (cond (r.sees jml ts (i + 1) k.Integer) (eqb (number_at ts (i + 1)) 2147483648) false) false ≡ true → (seen jml ts i ≡ k.Minus) × (seen jml ts (i + 1) ≡ k.Integer) × (number_at ts (i + 1) ≡ 2147483648)
+    least_by : (i : ℕ) (b : Bool) → r.sees jml ts i k.Minus ≡ b → cond b (cond (r.sees jml ts (i + 1) k.Integer) (eqb (value_at ts (i + 1)) (big_at ts (i + 1))) false) false ≡ true → (seen jml ts i ≡ k.Minus) × (seen jml ts (i + 1) ≡ k.Integer) × (value_at ts (i + 1) ≡ big_at ts (i + 1))
     least_by i true h e = go (r.sees jml ts (i + 1) k.Integer) refl e
       where
-        go : (c : Bool) → r.sees jml ts (i + 1) k.Integer ≡ c → cond c (eqb (number_at ts (i + 1)) 2147483648) false ≡ true → (seen jml ts i ≡ k.Minus) × (seen jml ts (i + 1) ≡ k.Integer) × (number_at ts (i + 1) ≡ 2147483648)
-        go true c e = (seen_is i k.Minus h, seen_is (i + 1) k.Integer c, eqb-true (number_at ts (i + 1)) 2147483648 e)
+        go : (c : Bool) → r.sees jml ts (i + 1) k.Integer ≡ c → cond c (eqb (value_at ts (i + 1)) (big_at ts (i + 1))) false ≡ true → (seen jml ts i ≡ k.Minus) × (seen jml ts (i + 1) ≡ k.Integer) × (value_at ts (i + 1) ≡ big_at ts (i + 1))
+        go true c e = (seen_is i k.Minus h, seen_is (i + 1) k.Integer c, eqb-true (value_at ts (i + 1)) (big_at ts (i + 1)) e)
         go false c e = absurd cc
     least_by i false h e = absurd cc
 
-    least_is : (i : ℕ) → r.is_least jml ts i ≡ true → (seen jml ts i ≡ k.Minus) × (seen jml ts (i + 1) ≡ k.Integer) × (number_at ts (i + 1) ≡ 2147483648)
+    least_is : (i : ℕ) → r.is_least jml ts i ≡ true → (seen jml ts i ≡ k.Minus) × (seen jml ts (i + 1) ≡ k.Integer) × (value_at ts (i + 1) ≡ big_at ts (i + 1))
     unfolding r.is_least
     least_is i h = least_by i (r.sees jml ts i k.Minus) refl h
 
-    -- behind a prefix, which is no `-` before 2147483648
+    -- behind a prefix, which is no `-` before a big literal
     literal_behind : (i : ℕ) (s : Span) → r.is_least jml ts i ≡ false → BigLiteralAt jml ts (i + 1) s → BigLiteralAt jml ts i s
     literal_behind i s isnt h = record { at = h.at; behind = omega (arith, h.behind); span = h.span; literal = h.literal; number = h.number; before = go h.before }
       where
         free : h.at ≡ i + 1 → seen jml ts (h.at - 1) ≡ k.Minus → ⊥
         free at m =
             let p : h.at - 1 ≡ i = omega arith in
-            let yes : r.is_least jml ts i ≡ true = is_least_by i (subst (λ (j : ℕ). seen jml ts j ≡ k.Minus) p m) (subst (λ (j : ℕ). seen jml ts j ≡ k.Integer) at h.literal) (subst (λ (j : ℕ). number_at ts j ≡ 2147483648) at h.number) in
+            let yes : r.is_least jml ts i ≡ true = is_least_by i (subst (λ (j : ℕ). seen jml ts j ≡ k.Minus) p m) (subst (λ (j : ℕ). seen jml ts j ≡ k.Integer) at h.literal) (subst (λ (j : ℕ). value_at ts j ≡ big_at ts j) at h.number) in
             let x : true ≡ false = sym yes ∙ isnt in absurd cc
 
         go : (h.at ≡ i + 1) ⊎ ((seen jml ts (h.at - 1) ≡ k.Minus → ⊥) ⊎ ((q o : ℕ) × (a : Expr) × Spells jml ts q 14 o a (h.at - 1))) → (h.at ≡ i) ⊎ ((seen jml ts (h.at - 1) ≡ k.Minus → ⊥) ⊎ ((q o : ℕ) × (a : Expr) × Spells jml ts q 14 o a (h.at - 1)))

@@ -8,7 +8,7 @@ use Rattle.jr_base.specs.declared.refusal.Fail.TheVariants.{Memory, Refused}
 use Rattle.jr_lexer.specs.declared.kind.Kind.{Kind}
 use Rattle.jr_lexer.specs.declared.kind.Kind.TheVariants as k
 use Rattle.jr_lexer.specs.Token.{Token}
-use Rattle.jr_lexer.specs.Reading.{kind_at, jml_at, number_at, span_at}
+use Rattle.jr_lexer.specs.Reading.{kind_at, jml_at, value_at, big_at, span_at}
 use Rattle.jr_ast.specs.declared.expr.SpecExpr.{SpecExpr}
 use Rattle.jr_ast.specs.declared.expr.Expr.{Expr as ExprTree}
 use Rattle.jr_ast.specs.Expressions.{Expr, view_expr, view_spec}
@@ -36,7 +36,6 @@ left_out _ k.Double = true
 left_out _ k.Char = true
 left_out _ k.Byte = true
 left_out _ k.Short = true
-left_out _ k.Long = true
 left_out _ k.Goto = true
 left_out _ k.Const = true
 left_out _ k.Arrow = true
@@ -65,14 +64,14 @@ pub record LeftOut (ts : List Token) (i : ℕ) (s : Span) : Type 0 where
   pub span : s ≡ span_at ts at
   pub word : left_out (jml_at ts at) (kind_at ts at) ≡ true
 
--- A place from i on holds the literal 2147483648, not directly behind a unary `-`: it is the first place, or
--- no `-` stands before it, or one that has an operand on its left.
+-- A place from i on holds the big literal of a type, not directly behind a unary `-`: it is the first place,
+-- or no `-` stands before it, or one that has an operand on its left.
 pub record BigLiteralAt (jml : Bool) (ts : List Token) (i : ℕ) (s : Span) : Type 0 where
   pub at : ℕ
   pub behind : i ≤ at
   pub span : s ≡ span_at ts at
   pub literal : seen jml ts at ≡ k.Integer
-  pub number : number_at ts at ≡ 2147483648
+  pub number : value_at ts at ≡ big_at ts at
   pub before : (at ≡ i) ⊎ ((seen jml ts (at - 1) ≢ k.Minus) ⊎ ((q h : ℕ) × (a : Expr) × Spells jml ts q 14 h a (at - 1)))
 
 -- nothing stands at a place, however deep it may nest

@@ -3,7 +3,7 @@
 use Rattle.std.specs.Prelude.{◌≡◌, ◌<◌, ℕ, suc, ◌+◌, Bool, true, false, List, [], ◌∷◌, Some, codes}
 use Rattle.jr_lexer.specs.declared.kind.Kind.TheVariants as k
 use Rattle.jr_lexer.specs.Token.{Token}
-use Rattle.jr_lexer.specs.Reading.{text_at, number_at, span_at}
+use Rattle.jr_lexer.specs.Reading.{text_at, value_at, big_at, span_at}
 use Rattle.jr_ast.specs.declared.name.ElementType.{ElementType}
 use Rattle.jr_ast.specs.declared.operator.Prefix.{Prefix}
 use Rattle.jr_ast.specs.declared.operator.Prefix.TheVariants.{Negate}
@@ -15,7 +15,7 @@ use Rattle.jr_ast.specs.declared.expr.Quantifier.{Quantifier}
 use Rattle.jr_ast.specs.Expressions.{Expr, exprs}
 use Rattle.jr_ast.specs.Expressions as e
 use Rattle.jr_expr_parser.specs.declared.operators.Grouping.TheVariants.{Once, ToTheLeft}
-use Rattle.jr_expr_parser.specs.Seen.{seen, name_at}
+use Rattle.jr_expr_parser.specs.Seen.{seen, name_at, literal_at}
 use Rattle.jr_expr_parser.specs.Operators.{prefix_of, postfix_of, infix_of, assignment_of, bound_of, quantifier_of, element_of, reach, grouping_of}
 use Rattle.jr_expr_parser.specs.Nesting.{is_new_array, is_implied_by}
 
@@ -27,7 +27,7 @@ mutual
     null : {q i : ℕ} → seen jml ts i ≡ k.Null → Spells jml ts q 18 i (e.Null (span_at ts i)) (i + 1)
     truth : {q i : ℕ} → seen jml ts i ≡ k.True → Spells jml ts q 18 i (e.Boolean (span_at ts i) true) (i + 1)
     falsity : {q i : ℕ} → seen jml ts i ≡ k.False → Spells jml ts q 18 i (e.Boolean (span_at ts i) false) (i + 1)
-    integer : {q i : ℕ} → seen jml ts i ≡ k.Integer → number_at ts i < 2147483648 → Spells jml ts q 18 i (e.Integer (span_at ts i) (number_at ts i)) (i + 1)
+    integer : {q i : ℕ} → seen jml ts i ≡ k.Integer → value_at ts i < big_at ts i → Spells jml ts q 18 i (e.Integer (span_at ts i) (literal_at ts i)) (i + 1)
     this : {q i : ℕ} → seen jml ts i ≡ k.This → Spells jml ts q 18 i (e.This (span_at ts i)) (i + 1)
     variable : {q i : ℕ} → seen jml ts i ≡ k.Name → Spells jml ts q 18 i (e.SimpleName (span_at ts i) (name_at ts i)) (i + 1)
     class_literal : {q i : ℕ} → seen jml ts i ≡ k.Name → seen jml ts (i + 1) ≡ k.Dot → seen jml ts (i + 2) ≡ k.Class → Spells jml ts q 18 i (e.ClassLiteral (span_at ts i) (name_at ts i)) (i + 3)
@@ -57,10 +57,10 @@ mutual
     field : {q i j : ℕ} {a : Expr} → Spells jml ts q 18 i a j → seen jml ts j ≡ k.Dot → seen jml ts (j + 1) ≡ k.Name → Spells jml ts q 18 i (e.FieldOf (e.place_of a) a (name_at ts (j + 1))) (j + 2)
     invoked : {q i j m : ℕ} {a : Expr} {es : List Expr} → jml ≡ false → Spells jml ts q 18 i a j → seen jml ts j ≡ k.Dot → seen jml ts (j + 1) ≡ k.Name → seen jml ts (j + 2) ≡ k.OpenParen → Arguments jml ts q (j + 3) es m → Spells jml ts q 18 i (e.CallOf (e.place_of a) a (name_at ts (j + 1)) (exprs es)) m
     indexed : {q i j m : ℕ} {a b : Expr} → Spells jml ts q 18 i a j → is_new_array a ≡ false → seen jml ts j ≡ k.OpenBracket → Spells jml ts q 1 (j + 1) b m → seen jml ts m ≡ k.CloseBracket → Spells jml ts q 18 i (e.ElementOf (e.place_of a) a b) (m + 1)
-    -- operators behind and before their operand; 2147483648 stands directly behind a unary `-` alone
+    -- operators behind and before their operand; the big literal of a type stands directly behind a unary `-` alone
     with_postfix : {q i j : ℕ} {a : Expr} {op : Postfix} → Spells jml ts q 17 i a j → postfix_of jml (seen jml ts j) ≡ Some op → Spells jml ts q 17 i (e.Postfixed (span_at ts i) op a) (j + 1)
     with_prefix : {q i j : ℕ} {a : Expr} {op : Prefix} → prefix_of jml (seen jml ts i) ≡ Some op → Spells jml ts q 16 (i + 1) a j → Spells jml ts q 16 i (e.Prefixed (span_at ts i) op a) j
-    least_integer : {q i : ℕ} → seen jml ts i ≡ k.Minus → seen jml ts (i + 1) ≡ k.Integer → number_at ts (i + 1) ≡ 2147483648 → Spells jml ts q 16 i (e.Prefixed (span_at ts i) Negate (e.Integer (span_at ts (i + 1)) 2147483648)) (i + 2)
+    least_integer : {q i : ℕ} → seen jml ts i ≡ k.Minus → seen jml ts (i + 1) ≡ k.Integer → value_at ts (i + 1) ≡ big_at ts (i + 1) → Spells jml ts q 16 i (e.Prefixed (span_at ts i) Negate (e.Integer (span_at ts (i + 1)) (literal_at ts (i + 1)))) (i + 2)
     -- operators between operands
     to_the_left : {q l i j m : ℕ} {a b : Expr} {op : Infix} → grouping_of l ≡ ToTheLeft → Spells jml ts q l i a j → infix_of jml (seen jml ts j) ≡ Some (l, op) → Spells jml ts q (suc l) (j + 1) b m → Spells jml ts q l i (e.Infixed (span_at ts i) op a b) m
     once : {q l i j m : ℕ} {a b : Expr} {op : Infix} → grouping_of l ≡ Once → Spells jml ts q (suc l) i a j → infix_of jml (seen jml ts j) ≡ Some (l, op) → Spells jml ts q (suc l) (j + 1) b m → Spells jml ts q l i (e.Infixed (span_at ts i) op a b) m

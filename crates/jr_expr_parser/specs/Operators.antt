@@ -145,6 +145,7 @@ quantifier_of _ = None
 -- the elements of an array that is made: a type of no array, of which a class is written by its name
 abbrev pub element_of : Kind → Name → Option ElementType
 element_of k.Int name = Some element.Int
+element_of k.Long name = Some element.Long
 element_of k.Boolean name = Some element.Boolean
 element_of k.Name name = Some (element.Class name)
 element_of _ name = None

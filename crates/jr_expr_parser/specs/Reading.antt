@@ -9,7 +9,7 @@ use Rattle.jr_lexer.specs.contracts.kind.Kind.{the_type}
 use Rattle.jr_lexer.specs.declared.kind.Kind.{Kind}
 use Rattle.jr_lexer.specs.declared.kind.Kind.TheVariants as k
 use Rattle.jr_lexer.specs.Token.{Token}
-use Rattle.jr_lexer.specs.Reading.{kind_at, text_at, number_at, jml_at, span_at}
+use Rattle.jr_lexer.specs.Reading.{kind_at, text_at, value_at, big_at, jml_at, span_at}
 use Rattle.jr_ast.specs.declared.name.ElementType.{ElementType}
 use Rattle.jr_ast.specs.declared.operator.Prefix.{Prefix}
 use Rattle.jr_ast.specs.declared.operator.Prefix.TheVariants.{Negate}
@@ -22,7 +22,7 @@ use Rattle.jr_ast.specs.Expressions.{Expr, exprs}
 use Rattle.jr_ast.specs.Expressions as e
 use Rattle.jr_expr_parser.specs.declared.operators.Grouping.{Grouping}
 use Rattle.jr_expr_parser.specs.declared.operators.Grouping.TheVariants.{Assigns, Chooses, Implies, Once, ToTheLeft}
-use Rattle.jr_expr_parser.specs.Seen.{seen, name_at}
+use Rattle.jr_expr_parser.specs.Seen.{seen, name_at, literal_at}
 use Rattle.jr_expr_parser.specs.Operators.{prefix_of, postfix_of, infix_of, assignment_of, bound_of, quantifier_of, element_of, reach, grouping_of}
 use Rattle.jr_expr_parser.specs.Nesting.{nesting, is_new_array, is_implied_by}
 use Rattle.jr_expr_parser.specs.Answers.{left_out}
@@ -95,12 +95,14 @@ module _ (jml : Bool) (ts : List Token) where
       bound (i + 4) >>= λ high.
       Ok ((low, high), i + 5)
 
-  -- `-2147483648`
+  -- `-` and the big literal of a type
   unfoldable pub is_least : ℕ → Bool
-  is_least i = if sees i k.Minus then (if sees (i + 1) k.Integer then number_at ts (i + 1) == 2147483648 else false) else false
+  is_least i = if sees i k.Minus then (if sees (i + 1) k.Integer then value_at ts (i + 1) == big_at ts (i + 1) else false) else false
 
   unfoldable pub integer : ℕ → Outcome Expr
-  integer i = if nat_lt (number_at ts i) 2147483648 then Ok (e.Integer (span_at ts i) (number_at ts i), i + 1) else (if number_at ts i == 2147483648 then Err (refusal.BigLiteral (span_at ts i)) else Err (refusal_at i))
+  integer i =
+      if nat_lt (value_at ts i) (big_at ts i) then Ok (e.Integer (span_at ts i) (literal_at ts i), i + 1)
+      else (if value_at ts i == big_at ts i then Err (refusal.BigLiteral (span_at ts i)) else Err (refusal_at i))
 
   unfoldable pub result_word : ℕ → Outcome Expr
   result_word i = if jml then Ok (e.MethodResult (span_at ts i), i + 1) else Err (refusal_at i)
@@ -266,7 +268,7 @@ module _ (jml : Bool) (ts : List Token) where
 
     unfoldable pub unary : ℕ → ℕ → Outcome Expr
     unary q i =
-        if is_least i then (fits room (span_at ts i) (e.Prefixed (span_at ts i) Negate (e.Integer (span_at ts (i + 1)) 2147483648)) >>= λ a. Ok (a, i + 2))
+        if is_least i then (fits room (span_at ts i) (e.Prefixed (span_at ts i) Negate (e.Integer (span_at ts (i + 1)) (literal_at ts (i + 1)))) >>= λ a. Ok (a, i + 2))
         else one_or (prefix i) (postfixed q i) (λ op. nest q 16 (i + 1) >>= λ a. Ok (e.Prefixed (span_at ts i) op a.0, a.1))
 
     -- ---- the operators of one level between operands, where inner reads an operand of the next one

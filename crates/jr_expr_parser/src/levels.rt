@@ -44,8 +44,14 @@ impl<'a, F: Fn(Global, &Tokens, bool, u8, u8, u8, u32) -> Result<(Read, u32), Fa
     {
         let place = self.source.span(at);
         if self.source.is_least(at) {
-            let literal = self.source.span(at + 1);
-            let read = nodes::least(self.alloc, place, literal, self.room)?;
+            let literal = self.source.literal(at + 1);
+            let read = nodes::least(
+                self.alloc,
+                place,
+                self.source.span(at + 1),
+                literal,
+                self.room,
+            )?;
             return Ok((read, at + 2));
         }
         let Some(op) = self.source.prefix(at) else {

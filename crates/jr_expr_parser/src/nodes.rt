@@ -11,8 +11,8 @@ use crate::listing::Listing;
 use crate::primary::Primary;
 use crate::read::Read;
 use jr_ast::{
-    AssignOp, Bound, ElementType, Expr, Infix, Name, Postfix, Prefix, QuantifiedExpr, Quantifier,
-    Shape, Suffix,
+    AssignOp, Bound, ElementType, Expr, Infix, IntegerLiteral, Name, Postfix, Prefix,
+    QuantifiedExpr, Quantifier, Shape, Suffix,
 };
 use jr_base::{Fail, Memory, Refusal, Span};
 use sqlite_items::{Boxed, Items};
@@ -324,12 +324,18 @@ pub fn prefixed(alloc: Global, place: Span, op: Prefix, a: Read) -> Result<Read,
     })
 }
 
-/// `-2147483648`.
-pub fn least(alloc: Global, place: Span, literal: Span, room: u8) -> Result<Read, Fail>
+/// `-`, and an integer literal with its place.
+pub fn least(
+    alloc: Global,
+    place: Span,
+    behind: Span,
+    literal: IntegerLiteral,
+    room: u8,
+) -> Result<Read, Fail>
     requires { room ≤ 128 }
-    ensures { Makes (reading.fits room place (e.Prefixed place Prefix.Negate (e.Integer literal 2147483648))) result }
+    ensures { Makes (reading.fits room place (e.Prefixed place Prefix.Negate (e.Integer behind literal))) result }
 {
-    let integer = Expr::new(alloc, literal, Shape::Integer(2147483648))?;
+    let integer = Expr::new(alloc, behind, Shape::Integer(literal))?;
     within(
         alloc,
         place,

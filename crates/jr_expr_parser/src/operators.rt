@@ -196,7 +196,6 @@ pub fn left_out(jml: bool, kind: Kind) -> bool
         | Kind::Char
         | Kind::Byte
         | Kind::Short
-        | Kind::Long
         | Kind::Goto
         | Kind::Const
         | Kind::Arrow => true,

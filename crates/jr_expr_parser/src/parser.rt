@@ -329,15 +329,16 @@ impl<'a, F: Fn(Global, &Tokens, bool, u8, u8, u8, u32) -> Result<(Read, u32), Fa
         requires place { at < 1048576 }
         ensures { ReadsPrimary (reading.integer self.now.source.jml self.now.source.tokens.now at) result }
     {
-        let number = self.source.number(at);
+        let literal = self.source.literal(at);
+        let big = self.source.big(at);
         let place = self.source.span(at);
-        if number < 2147483648 {
+        if literal.number < big {
             return Ok((
-                nodes::leaf(self.alloc, place, Shape::Integer(number)),
+                nodes::leaf(self.alloc, place, Shape::Integer(literal)),
                 at + 1,
             ));
         }
-        if number == 2147483648 {
+        if literal.number == big {
             return Err(Fail::Refused(Refusal::BigLiteral(place)));
         }
         Err(Fail::Refused(self.source.refusal(at)))

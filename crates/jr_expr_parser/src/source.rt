@@ -2,17 +2,19 @@
 
 ghost use Rattle.std.specs.Prelude.{◌≡◌, ◌<◌, IsTrue, IfSome, IfOk};
 ghost use Rattle.jr_lexer.specs.Answers.{Answers as Finds};
-ghost use Rattle.jr_lexer.specs.Reading.{number_at, span_at, text_at};
-ghost use Rattle.jr_expr_parser.specs.Seen.{seen, name_at};
+ghost use Rattle.jr_lexer.specs.Reading.{big_at, span_at, text_at};
+ghost use Rattle.jr_expr_parser.specs.Seen.{seen, literal_at, name_at};
 ghost use Rattle.jr_expr_parser.specs.Reading as reading;
 ghost use Rattle.jr_expr_parser.specs.Within.{Within};
 
 use crate::operators::{
     assignment_of, bound_of, infix_of, left_out, postfix_of, prefix_of, quantifier_of,
 };
-use jr_ast::{AssignOp, Bound, ElementType, Infix, Name, Postfix, Prefix, Quantifier};
+use jr_ast::{
+    AssignOp, Bound, ElementType, Infix, IntegerLiteral, Name, Postfix, Prefix, Quantifier,
+};
 use jr_base::{Fail, Memory, Refusal, Span};
-use jr_lexer::{Kind, Tokens};
+use jr_lexer::{Kind, Tokens, big_literal};
 use std::alloc::Global;
 
 /// The tokens of code, or those of annotations.
@@ -50,10 +52,22 @@ impl<'a> Source<'a> {
         self.tokens.span(at)
     }
 
-    pub fn number(&self, at: u32) -> u32
-        ensures { result ≡ number_at self.now.tokens.now at }
+    /// The integer literal at a place.
+    pub fn literal(&self, at: u32) -> IntegerLiteral
+        ensures { result ≡ literal_at self.now.tokens.now at }
     {
-        self.tokens.number(at)
+        let number = self.tokens.number(at);
+        IntegerLiteral {
+            number: number.value,
+            is_long: number.is_long,
+        }
+    }
+
+    /// The big literal of the type of the one at a place.
+    pub fn big(&self, at: u32) -> u64
+        ensures { result ≡ big_at self.now.tokens.now at }
+    {
+        big_literal(self.tokens.number(at).is_long)
     }
 
     /// The name at a place.
@@ -171,7 +185,7 @@ impl<'a> Source<'a> {
         Ok(((low, high), at + 5))
     }
 
-    /// Whether `-2147483648` stands there.
+    /// Whether `-` and the big literal of a type stand there.
     #[tactic(auto, unfolding(crate::specs::Reading::is_least))]
     pub fn is_least(&self, at: u32) -> bool
         ensures value { result ≡ reading.is_least self.now.jml self.now.tokens.now at }
@@ -179,7 +193,7 @@ impl<'a> Source<'a> {
     {
         self.sees(at, Kind::Minus)
             && self.sees(at + 1, Kind::Integer)
-            && self.number(at + 1) == 2147483648
+            && self.literal(at + 1).number == self.big(at + 1)
     }
 
     /// The quantifier behind a bracket.
@@ -201,6 +215,7 @@ impl<'a> Source<'a> {
     {
         match self.seen(at) {
             Kind::Int => Ok(ElementType::Int),
+            Kind::Long => Ok(ElementType::Long),
             Kind::Boolean => Ok(ElementType::Boolean),
             Kind::Name => Ok(ElementType::Class(self.name(alloc, at)?)),
             _ => Err(Fail::Refused(self.refusal(at))),

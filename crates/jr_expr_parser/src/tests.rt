@@ -2,7 +2,8 @@ ghost use Rattle.std.specs.Prelude.{◌≡◌, ◌≤◌, ◌⊎◌};
 
 use super::*;
 use jr_ast::{
-    AssignOp, Bound, Expr, Infix, Name, Postfix, Prefix, QuantifiedExpr, Quantifier, Shape, Suffix,
+    AssignOp, Bound, Expr, Infix, IntegerLiteral, Name, Postfix, Prefix, QuantifiedExpr,
+    Quantifier, Shape, Suffix,
 };
 use jr_base::{Fail as Refused, Refusal, Span};
 use jr_lexer::lex;
@@ -16,7 +17,7 @@ use std::test;
 enum Todo<'a> {
     Word(&'a str),
     Text(&'a Name),
-    Number(u32),
+    Number(IntegerLiteral),
     Node(&'a Expr),
     Form(&'a Shape),
     /// Each behind a blank.
@@ -194,7 +195,10 @@ fn step<'a>(out: &mut String, stack: &mut Vec<Todo<'a>>, next: Todo<'a>) -> Resu
                 out.push_str(text)?;
             }
         }
-        Todo::Number(n) => write!(out, "{n}")?,
+        Todo::Number(literal) => {
+            let number = literal.number;
+            write!(out, "{number}{}", if literal.is_long { "L" } else { "" })?;
+        }
         Todo::Node(expr) => put_shape(stack, expr.shape.get())?,
         Todo::Form(shape) => put_shape(stack, shape)?,
         Todo::All([first, rest @ ..]) => {
@@ -299,7 +303,7 @@ fn check(rt: &impl Abort, alloc: Global, rows: &[(&[u8], &[u8])]) -> Result<(), 
     Ok(())
 }
 
-static CODE: [(&[u8], &[u8]); 36] = [
+static CODE: [(&[u8], &[u8]); 45] = [
     (
         b"1 - 2 * a() + 8",
         b"{Add {Subtract 1 {Multiply 2 a()}} 8} 9",
@@ -354,6 +358,15 @@ static CODE: [(&[u8], &[u8]); 36] = [
     (b"2147483648", b"BigLiteral 0"),
     (b"1 - 2147483648", b"BigLiteral 4"),
     (b"-(2147483648)", b"BigLiteral 2"),
+    (b"1L + 2147483648l", b"{Add 1L 2147483648L} 3"),
+    (b"-9223372036854775808L", b"{Negate 9223372036854775808L} 2"),
+    (b"9223372036854775808L", b"BigLiteral 0"),
+    (b"+9223372036854775808l", b"BigLiteral 1"),
+    (b"1 - 9223372036854775808L", b"BigLiteral 4"),
+    (b"-(9223372036854775808L)", b"BigLiteral 2"),
+    (b"new long[1L]", b"new[1L] 5"),
+    (b"new long(1)", b"Syntax 4"),
+    (b"1 + long", b"Syntax 4"),
 ];
 
 #[test]
@@ -361,7 +374,7 @@ fn reads_code(rt: HostRuntime) -> Result<(), test::Fail> {
     check(&rt, rt.alloc(), &CODE)
 }
 
-static CLAUSES: [(&[u8], &[u8]); 29] = [
+static CLAUSES: [(&[u8], &[u8]); 32] = [
     (
         b"//@ a <==> b <=!=> c",
         b"{NotEquivalent {Equivalent a b} c} 5",
@@ -407,6 +420,12 @@ static CLAUSES: [(&[u8], &[u8]); 29] = [
     (b"//@ a.f(x)", b"Syntax 7"),
     (b"//@ new C()", b"Syntax 4"),
     (b"//@ -2147483648 < 0", b"{Less {Negate 2147483648} 0} 4"),
+    (
+        b"//@ -9223372036854775808L < 0L",
+        b"{Less {Negate 9223372036854775808L} 0L} 4",
+    ),
+    (b"//@ 0 < 9223372036854775808L", b"BigLiteral 8"),
+    (b"//@ (\\forall long x; 0 < x && x < 9; b)", b"Syntax 13"),
     (b"//@ \\max(a)", b"NotInProfile 4"),
     (b"//@ a + assume", b"NotInProfile 8"),
     (b"//@ a + assert", b"Syntax 8"),

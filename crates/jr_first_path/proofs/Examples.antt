@@ -12,6 +12,7 @@ use Rattle.jr_ast.specs.declared.typed.Comparison.TheVariants as comparisons
 use Rattle.jr_ast.specs.declared.unit.Modifier.{Modifier}
 use Rattle.jr_ast.specs.declared.unit.ModifierKind.{ModifierKind}
 use Rattle.jr_ast.specs.declared.unit.ModifierKind.TheVariants.{Public, Static}
+use Rattle.jr_ast.specs.declared.literal.IntegerLiteral.{IntegerLiteral}
 use Rattle.jr_ast.specs.declared.unit.ConstantValue.TheVariants.{Negated}
 use Rattle.jr_ast.specs.declared.unit.MethodKind.TheVariants.{Void, Valued}
 use Rattle.jr_ast.specs.Expressions.{Expr, Integer, SimpleName, Call, Infixed, Assignment, no_expr, and_expr}
@@ -37,6 +38,9 @@ is_modifier kind = record { place = at 0; kind = kind }
 called : List ℕ → Expr → Expr
 called m e = Call (at 0) (named m) (and_expr e no_expr)
 
+int : ℕ → IntegerLiteral
+int n = record { number = n; is_long = false }
+
 simple : List ℕ → Expr
 simple x = SimpleName (at 0) (named x)
 
@@ -46,7 +50,7 @@ field_n = OfField (record {
   place = at 0;
   modifiers = is_modifier Static ∷ [];
   type_name = Single Int;
-  declarators = record { name = named (codes "n"); constant = Some (record { place = at 0; value = Negated 2 }) } ∷ [];
+  declarators = record { name = named (codes "n"); constant = Some (record { place = at 0; value = Negated (int 2) }) } ∷ [];
 })
 
 -- //@ requires k > n;
@@ -72,7 +76,7 @@ main_with x = OfMethod (record {
   kind = Void;
   name = named (codes "main");
   formals = record { modifiers = []; type_name = ArrayOf (OfClassName (named (codes "String"))); name = named x } ∷ [];
-  body = and_stmt (Print (at 0) (Value (called (codes "f") (Integer (at 0) 3)) ∷ []))
+  body = and_stmt (Print (at 0) (Value (called (codes "f") (Integer (at 0) (int 3))) ∷ []))
       (and_stmt (Expression (at 0) (called (codes "f") (simple (codes "n")))) no_stmt);
 })
 
@@ -108,21 +112,21 @@ small_program : form_of bytes (class_of (field_n ∷ method_f ∷ main_with (cod
       }
       ∷ [];
 })
-unfolding form_of_class with_field with_method heading relation effect print and_stands variable_named place_among known_types known_methods at named is_modifier called simple field_n method_f main_with class_of bytes
+unfolding form_of_class with_field with_method heading relation effect print and_stands variable_named place_among known_types known_methods at named is_modifier int called simple field_n method_f main_with class_of bytes
 small_program = refl
 
 without_main : form_of bytes (class_of (field_n ∷ method_f ∷ [])) ≡ WithoutMain
-unfolding form_of_class with_field with_method heading relation effect print and_stands variable_named place_among known_types known_methods at named is_modifier called simple field_n method_f main_with class_of bytes
+unfolding form_of_class with_field with_method heading relation effect print and_stands variable_named place_among known_types known_methods at named is_modifier int called simple field_n method_f main_with class_of bytes
 without_main = refl
 
 -- main's formal hides the field
 hidden_field : form_of bytes (class_of (field_n ∷ method_f ∷ main_with (codes "n") ∷ [])) ≡ Outside
-unfolding form_of_class with_field with_method heading relation effect print and_stands variable_named place_among known_types known_methods at named is_modifier called simple field_n method_f main_with class_of bytes
+unfolding form_of_class with_field with_method heading relation effect print and_stands variable_named place_among known_types known_methods at named is_modifier int called simple field_n method_f main_with class_of bytes
 hidden_field = refl
 
 -- a field stands before all methods
 field_below : form_of bytes (class_of (method_f ∷ field_n ∷ [])) ≡ Outside
-unfolding form_of_class with_field with_method heading relation effect print and_stands variable_named place_among known_types known_methods at named is_modifier called simple field_n method_f main_with class_of bytes
+unfolding form_of_class with_field with_method heading relation effect print and_stands variable_named place_among known_types known_methods at named is_modifier int called simple field_n method_f main_with class_of bytes
 field_below = refl
 
 -- the class is named as one that is known

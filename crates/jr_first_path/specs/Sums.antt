@@ -1,6 +1,7 @@
 -- Expressions of the form: sums and differences of literals, variables and calls.
-use Rattle.std.specs.Prelude.{ℕ, ◌+◌, ◌-◌, ◌==◌, ℤ, pos, cond, nat_le, List, [], ◌∷◌, length, Option, Some, None, option_map}
+use Rattle.std.specs.Prelude.{ℕ, ◌+◌, ◌-◌, ◌==◌, ℤ, pos, cond, not, ◌&&◌, nat_le, List, [], ◌∷◌, length, Option, Some, None, option_map}
 use Rattle.jr_base.specs.declared.number.MethodId.{MethodId}
+use Rattle.jr_ast.specs.declared.literal.IntegerLiteral.{IntegerLiteral}
 use Rattle.jr_ast.specs.declared.operator.Infix.{Infix}
 use Rattle.jr_ast.specs.declared.operator.Infix.TheVariants as infixes
 use Rattle.jr_ast.specs.declared.typed.Comparison.{Comparison}
@@ -20,8 +21,8 @@ abbrev pub within : {A : Type 0} → ℕ → Source → Option A → Option A
 within most e is = cond (nat_le (terms e) most) is None
 
 -- a literal of type int (JLS 3.10.1)
-abbrev pub int_of : ℕ → Option ℤ
-int_of n = cond (nat_le n 2147483647) (Some (pos n)) None
+abbrev pub int_of : IntegerLiteral → Option ℤ
+int_of n = cond (not n.is_long && nat_le n.number 2147483647) (Some (pos n.number)) None
 
 -- a call: the method and its arguments
 pub record Invocation : Type 0 where

@@ -141,7 +141,7 @@ fn is_string(element: &ElementType) -> bool
 {
     match element {
         ElementType::Class(name) => name.text.as_slice() == b"String".as_slice(),
-        ElementType::Int | ElementType::Boolean => false,
+        ElementType::Int | ElementType::Long | ElementType::Boolean => false,
     }
 }
 

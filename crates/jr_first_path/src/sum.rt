@@ -11,7 +11,7 @@ ghost use Rattle.jr_first_path.specs.Views.{view_invocation, view_scope, view_si
 
 use crate::answer::NOT_BUILT;
 use crate::scope::{Scope, Signature, Variable, method_named};
-use jr_ast::{Expr, Infix, Name, Shape, TypedExpr, TypedShape};
+use jr_ast::{Expr, Infix, IntegerLiteral, Name, Shape, TypedExpr, TypedShape};
 use jr_base::{Fail, MethodId};
 use sqlite_items::Items;
 use std::alloc::Global;
@@ -23,7 +23,7 @@ const MAX_TERMS: u32 = 32;
 pub const MAX_CALLS: u32 = 8;
 
 /// The greatest literal of type `int` (JLS 3.10.1).
-const MAX_INT: u32 = 2_147_483_647;
+const MAX_INT: u64 = 2_147_483_647;
 
 /// A call: the method and its arguments.
 #[derive(Drop)]
@@ -33,13 +33,13 @@ pub struct Invocation {
 }
 
 /// The literal as an `int`.
-pub fn int_of(literal: u32) -> Result<i32, Fail>
+pub fn int_of(literal: IntegerLiteral) -> Result<i32, Fail>
     ensures { Answers (λ n. n) (spec.int_of literal) result }
 {
-    if literal > MAX_INT {
+    if literal.is_long || literal.number > MAX_INT {
         return Err(NOT_BUILT);
     }
-    Ok(literal as i32)
+    Ok(literal.number as i32)
 }
 
 /// An expression with at most 32 terms, in which calls stand at most so deep in one another's arguments.
@@ -115,7 +115,7 @@ fn sum_of(
     }
 }
 
-fn number(alloc: Global, literal: u32) -> Result<TypedExpr, Fail>
+fn number(alloc: Global, literal: IntegerLiteral) -> Result<TypedExpr, Fail>
     ensures { Answers expr_view (option_map Number (spec.int_of literal)) result }
 {
     let value = int_of(literal)?;

@@ -1,8 +1,9 @@
 use super::*;
 use jr_ast::{
     Comparison, Constant, ConstantValue, ElementType, Expr, Field, FieldDeclarator, Form, Formal,
-    Infix, Member, Method, MethodClause, MethodForm, MethodKind, Modifier, ModifierKind, Name,
-    Part, Shape, SpecExpr, Stmt, TypeName, TypedExpr, TypedShape, TypedStatement,
+    Infix, IntegerLiteral, Member, Method, MethodClause, MethodForm, MethodKind, Modifier,
+    ModifierKind, Name, Part, Shape, SpecExpr, Stmt, TypeName, TypedExpr, TypedShape,
+    TypedStatement,
 };
 use jr_base::{ClauseId, FieldId, Memory, MethodId, Position, Span};
 use sqlite_items::Items;
@@ -32,8 +33,15 @@ fn modifiers(alloc: Global, kinds: &[ModifierKind]) -> Result<Items<Modifier>, M
     Ok(all)
 }
 
-fn number(alloc: Global, value: u32) -> Result<Expr, Memory> {
-    Expr::new(alloc, at(0), Shape::Integer(value))
+fn int(number: u64) -> IntegerLiteral {
+    IntegerLiteral {
+        number,
+        is_long: false,
+    }
+}
+
+fn number(alloc: Global, value: u64) -> Result<Expr, Memory> {
+    Expr::new(alloc, at(0), Shape::Integer(int(value)))
 }
 
 fn variable(alloc: Global, text: &[u8]) -> Result<Expr, Memory> {
@@ -60,7 +68,7 @@ fn field(alloc: Global, text: &[u8]) -> Result<Member, Memory> {
         name: name(alloc, text)?,
         constant: Some(Constant {
             place: at(0),
-            value: ConstantValue::Integer(2),
+            value: ConstantValue::Integer(int(2)),
         }),
     };
     Ok(Member::Field(Field {

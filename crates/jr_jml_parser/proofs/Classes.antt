@@ -126,6 +126,9 @@ no_declares h d = let e : true ≡ false = sym (declares_starts d) ∙ h in cc
 pub declares_open : (ts : List Token) (s : Bool) (i depth : ℕ) (r : Refusal) → class_word (seen true ts i) ≡ false → r ≡ refusal_at ts i → Refuses (Declares ts s i) class_nesting ts i depth r
 declares_open ts s i depth r h is = refused_at (Declares ts s i) class_nesting ts i i depth r (omega arith) (λ a j d. no_declares h d) is
 
+pub declares_refused : (ts : List Token) (s : Bool) (i depth : ℕ) (r : Refusal) (x : Kind) → x ≡ seen true ts i → x ≢ k.Invariant → x ≢ k.Constraint → x ≢ k.MonitorsFor → r ≡ refusal_at ts i → Refuses (Declares ts s i) class_nesting ts i depth r
+declares_refused ts s i depth r x h a b d is = declares_open ts s i depth r (subst (λ (y : Kind). class_word y ≡ false) h (no_class_word x a b d)) is
+
 -- ---- with the modifiers
 
 pub word_plain : (x : Kind) → class_word x ≡ true → is_modifier x ≡ false
@@ -156,6 +159,6 @@ class_starts {ts = ts} (modified {i = i} (visible v d) e) = inl (is_visible (see
 class_starts (modified (static h d) e) = inl (ap is_modifier h)
 
 -- the steps of the functions that read them
-pub ruleset class_steps = (behind_other, invariant_failed, constraint_failed, static_refused, declares_open, no_class_word)
+pub ruleset class_steps = (behind_other, invariant_failed, constraint_failed, static_refused)
 
 pub ruleset monitors_steps = (nameless, tie_failed, objects_start, objects_failed)

@@ -116,8 +116,11 @@ no_method_word _ a b d e f g = refl
 pub no_method : {ts : List Token} {i j : ℕ} {a : MethodClause} → method_word (seen true ts i) ≡ false → SpellsMethod ts i a j → ⊥
 no_method h s = let e : true ≡ false = sym (method_starts s) ∙ h in cc
 
-pub method_open : (ts : List Token) (i depth : ℕ) (r : Refusal) → method_word (seen true ts i) ≡ false → r ≡ refusal_at ts i → Refuses (SpellsMethod ts i) method_nesting ts i depth r
+method_open : (ts : List Token) (i depth : ℕ) (r : Refusal) → method_word (seen true ts i) ≡ false → r ≡ refusal_at ts i → Refuses (SpellsMethod ts i) method_nesting ts i depth r
 method_open ts i depth r h is = refused_at (SpellsMethod ts i) method_nesting ts i i depth r (omega arith) (λ a j s. no_method h s) is
 
+pub method_refused : (ts : List Token) (i depth : ℕ) (r : Refusal) (x : Kind) → x ≡ seen true ts i → x ≢ k.Requires → x ≢ k.Ensures → x ≢ k.When → x ≢ k.Locks → x ≢ k.Assignable → x ≢ k.Modifies → r ≡ refusal_at ts i → Refuses (SpellsMethod ts i) method_nesting ts i depth r
+method_refused ts i depth r x h a b d e f g is = method_open ts i depth r (subst (λ (y : Kind). method_word y ≡ false) h (no_method_word x a b d e f g)) is
+
 -- the steps of the functions that read them
-pub ruleset method_steps = (behind_other, requires_failed, ensures_failed, when_failed, locks_failed, assignable_failed, modifies_failed, assignable_fits, modifies_fits, method_open, no_method_word)
+pub ruleset method_steps = (behind_other, requires_failed, ensures_failed, when_failed, locks_failed, assignable_failed, modifies_failed, assignable_fits, modifies_fits)

@@ -7,7 +7,7 @@ use Rattle.jr_base.specs.declared.refusal.Fail.{Fail}
 use Rattle.jr_base.specs.declared.refusal.Fail.TheVariants.{Memory, Refused}
 use Rattle.jr_lexer.specs.declared.kind.Kind.TheVariants as k
 use Rattle.jr_lexer.specs.Token.{Token}
-use Rattle.jr_lexer.specs.Reading.{number_at, span_at}
+use Rattle.jr_lexer.specs.Reading.{value_at, big_at, span_at}
 use Rattle.jr_ast.specs.declared.clause.Clause.{Clause as ClauseTree}
 use Rattle.jr_ast.specs.declared.clause.MethodClause.{MethodClause as MethodClauseTree}
 use Rattle.jr_ast.specs.declared.clause.ClassClause.{ClassClause as ClassClauseTree}
@@ -28,13 +28,13 @@ NotNegated ts at =
     ⊎ (((q h : ℕ) × (a : Expr) × Spells true ts q 14 h a (at - 1))
     ⊎ ((h : ℕ) × (seen true ts h ≡ k.MonitorsFor) × Tie ts (h + 2) at))
 
--- A place from i on holds the literal 2147483648, not directly behind a unary `-`.
+-- A place from i on holds the big literal of a type, not directly behind a unary `-`.
 pub record BigLiteralAt (ts : List Token) (i : ℕ) (s : Span) : Type 0 where
   pub at : ℕ
   pub behind : i ≤ at
   pub span : s ≡ span_at ts at
   pub literal : seen true ts at ≡ k.Integer
-  pub number : number_at ts at ≡ 2147483648
+  pub number : value_at ts at ≡ big_at ts at
   pub before : NotNegated ts at
 
 -- Below, Stands a j says that a stands at the place i, up to the place j, and nests says how deep an a nests.

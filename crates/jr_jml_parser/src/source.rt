@@ -69,7 +69,6 @@ fn left_out(jml: bool, kind: Kind) -> bool
         | Kind::Char
         | Kind::Byte
         | Kind::Short
-        | Kind::Long
         | Kind::Goto
         | Kind::Const
         | Kind::Arrow => true,

@@ -20,8 +20,9 @@ fn name(out: &mut String, text: &[u8]) -> Result<(), test::Fail> {
 fn tell(out: &mut String, expr: &Expr) -> Result<(), test::Fail> {
     match expr.shape.get() {
         Shape::SimpleName(x) => name(out, x.text.as_slice()),
-        Shape::Integer(n) => {
-            write!(out, "{n}")?;
+        Shape::Integer(literal) => {
+            let number = literal.number;
+            write!(out, "{number}")?;
             Ok(())
         }
         Shape::Prefix(op, _) => {
@@ -177,7 +178,7 @@ fn check(rt: &impl Abort, alloc: Global, rows: &[(&[u8], u8, &[u8])]) -> Result<
     Ok(())
 }
 
-static CLAUSES: [(&[u8], u8, &[u8]); 22] = [
+static CLAUSES: [(&[u8], u8, &[u8]); 23] = [
     (b"//@ requires a;", 0, b"4 requires a, 3"),
     (b"//@ ensures a == \\old(b);", 0, b"4 ensures Equal, 8"),
     (b"//@ when a;", 0, b"4 when a, 3"),
@@ -213,6 +214,11 @@ static CLAUSES: [(&[u8], u8, &[u8]); 22] = [
     ),
     (b"/*@ locks a,\n @ b @*/ //@ , c;", 0, b"4 locks a b c, 7"),
     (b"//@ requires -2147483648 < a;", 0, b"4 requires Less, 6"),
+    (
+        b"//@ requires -9223372036854775808L < a + 1L;",
+        0,
+        b"4 requires Less, 8",
+    ),
     (b"//@ requires a;", 128, b"4 requires a, 3"),
     (b"//@ locks a, -b;", 127, b"4 locks a Negate, 6"),
     (b"//@ assert a;", 127, b"4 assert a, 3"),
@@ -223,7 +229,7 @@ fn reads_clauses(rt: HostRuntime) -> Result<(), test::Fail> {
     check(&rt, rt.alloc(), &CLAUSES)
 }
 
-static REFUSED: [(&[u8], u8, &[u8]); 33] = [
+static REFUSED: [(&[u8], u8, &[u8]); 35] = [
     (b"", 0, b"Syntax 0"),
     (b"requires a;", 0, b"Syntax 0"),
     (b"//@ a;", 0, b"Syntax 4"),
@@ -252,6 +258,12 @@ static REFUSED: [(&[u8], u8, &[u8]); 33] = [
     (b"//@ public model int a;", 0, b"NotInProfile 11"),
     (b"//@ requires a && \\max(b);", 0, b"NotInProfile 18"),
     (b"//@ ensures 2147483648 > a;", 0, b"BigLiteral 12"),
+    (
+        b"//@ ensures 9223372036854775808L > a;",
+        0,
+        b"BigLiteral 12",
+    ),
+    (b"//@ ensures a > long;", 0, b"Syntax 16"),
     (b"//@ monitors_for x <- 2147483648;", 0, b"BigLiteral 22"),
     (b"//@ requires -a;", 128, b"TooDeep 14"),
     (b"//@ locks a, -b;", 128, b"TooDeep 14"),

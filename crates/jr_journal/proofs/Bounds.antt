@@ -6,7 +6,7 @@ use Rattle.jr_base.specs.declared.action.Body.{Body}
 use Rattle.jr_base.specs.declared.action.Reply.{Reply}
 use Rattle.jr_base.specs.declared.value.Value.{Value}
 use Rattle.jr_ast.specs.Programs.{Program, Method, Statement, SetLocal, SetField, Do, Println, Expr, Number, Local, Field, Plus, Minus, CallOf, Exprs, no_more, and_then, method_at}
-use Rattle.jr_journal.specs.Next.{Tape, Variables, Out, Got, Stops, NoTurns, then_do, ask, Calls, eval, eval_all, exec, block, returns, body, call_with, bounded_call, call, ending, guest_run}
+use Rattle.jr_journal.specs.FirstForm.Next.{Tape, Variables, Out, Got, Stops, NoTurns, then_do, ask, Calls, eval, eval_all, exec, block, returns, body, call_with, bounded_call, call, ending, guest_run}
 
 -- not out of turns, and with at most k replies left
 abbrev pub Within : {A : Type 0} → ℕ → Out A → Type 0

@@ -1,6 +1,5 @@
 -- The definitions, computed on small programs.
-use Rattle.std.proofs.Common.{◌≡◌, List, [], ◌∷◌, refl, ap, None, Some, pos, codes, lit<}
-use Rattle.std.specs.Fmt.{digits}
+use Rattle.std.proofs.Common.{◌≡◌, List, [], ◌∷◌, refl, ap, None, Some, pos, lit<}
 use Rattle.std.proofs.lemmas.Int.{fits_signed_from_abs, int_wrap_fits}
 use Rattle.std.specs.Int.{w32}
 use Rattle.jr_base.specs.declared.number.GuestNo.{GuestNo}
@@ -12,13 +11,11 @@ use Rattle.jr_base.specs.declared.action.LeaveHow.TheVariants.{Normal}
 use Rattle.jr_base.specs.declared.action.EndHow.TheVariants as ends
 use Rattle.jr_base.specs.declared.action.PrintPart.TheVariants.{Val}
 use Rattle.jr_base.specs.declared.value.Value.TheVariants.{Int}
-use Rattle.jr_base.specs.declared.finish.Finish.TheVariants.{Finished}
 use Rattle.jr_base.specs.Deed.{Deed, Call, Leave, Get, Print, End}
 use Rattle.jr_ast.specs.Programs.{Program, Println, Local, Field, Plus, CallOf, no_more, and_then}
 use Rattle.jr_journal.specs.Event.{Event, Step}
-use Rattle.jr_journal.specs.Next.{Wants, Ended, cell_of, sum_of}
-use Rattle.jr_journal.specs.History.{IsLegal, next_of}
-use Rattle.jr_journal.specs.Report.{report}
+use Rattle.jr_journal.specs.FirstForm.Next.{Wants, Ended, cell_of, sum_of}
+use Rattle.jr_journal.specs.FirstForm.History.{IsLegal, next_of}
 
 -- ---- class A { static int n = 2; static int twice(int x) { return x + x; }
 --               public static void main(String[] a) { System.out.println(twice(n)); } }
@@ -86,9 +83,3 @@ run-legal = (
 run-ends : next_of doubling run main_guest ≡ Ended
 unfolding run made doubling main_guest main twice n
 run-ends = refl
-
--- and this is printed of them
-run-report : report doubling run Finished ≡
-    codes "out 1: 4" ∷ codes "finish Finished" ∷ codes "steps 7, guests 1, verdicts 0, violations 0, uncaught 0" ∷ []
-unfolding run made doubling main_guest main twice n digits
-run-report = refl

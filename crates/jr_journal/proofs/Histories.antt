@@ -6,8 +6,8 @@ use Rattle.jr_base.specs.declared.action.Reply.{Reply}
 use Rattle.jr_journal.specs.Along.{Along, Each}
 use Rattle.jr_journal.specs.Event.{Event, Step, Judged}
 use Rattle.jr_ast.specs.Programs.{Program}
-use Rattle.jr_journal.specs.World.{World, after, start_world}
-use Rattle.jr_journal.specs.History.{world_from, world_after, replies_of, step_count, steps_in, MayCome, IsLegal}
+use Rattle.jr_journal.specs.FirstForm.World.{World, after, start_world}
+use Rattle.jr_journal.specs.FirstForm.History.{world_from, world_after, replies_of, step_count, steps_in, MayCome, IsLegal}
 use Rattle.std.proofs.lemmas.List.Sums.{sum_by_push}
 
 -- one more, after those of which it holds

@@ -1,6 +1,5 @@
--- The definitions of verdicts and of the report, computed on two small runs with a precondition.
-use Rattle.std.proofs.Common.{◌≡◌, ℤ, List, [], ◌∷◌, refl, None, Some, pos, codes}
-use Rattle.std.specs.Fmt.{digits}
+-- The definitions of verdicts, computed on two small runs with a precondition.
+use Rattle.std.proofs.Common.{◌≡◌, ℤ, List, [], ◌∷◌, refl, None, Some, pos}
 use Rattle.std.proofs.lemmas.List.Elements.{All-nil}
 use Rattle.jr_base.specs.declared.number.GuestNo.{GuestNo}
 use Rattle.jr_base.specs.declared.number.FieldId.{FieldId}
@@ -11,7 +10,6 @@ use Rattle.jr_base.specs.declared.action.LeaveHow.TheVariants.{Normal}
 use Rattle.jr_base.specs.declared.action.EndHow.TheVariants as ends
 use Rattle.jr_base.specs.declared.action.PrintPart.TheVariants.{Val}
 use Rattle.jr_base.specs.declared.value.Value.TheVariants.{Int}
-use Rattle.jr_base.specs.declared.finish.Finish.TheVariants.{Finished}
 use Rattle.jr_base.specs.declared.finish.Verdict.{Verdict}
 use Rattle.jr_base.specs.declared.finish.Verdict.TheVariants.{True, False}
 use Rattle.jr_base.specs.Deed.{Deed, Call, Leave, Get, Print, End}
@@ -19,9 +17,8 @@ use Rattle.jr_ast.specs.declared.typed.ClauseKind.TheVariants.{Requires}
 use Rattle.jr_ast.specs.declared.typed.Comparison.TheVariants.{Greater}
 use Rattle.jr_ast.specs.Programs.{Program, Println, Number, Local, Field, Plus, CallOf, no_more, and_then}
 use Rattle.jr_journal.specs.Event.{Event, Step, Judged}
-use Rattle.jr_journal.specs.Next.{cell_of}
-use Rattle.jr_journal.specs.Verdicts.{IsRight, verdicts_of}
-use Rattle.jr_journal.specs.Report.{report}
+use Rattle.jr_journal.specs.FirstForm.Next.{cell_of}
+use Rattle.jr_journal.specs.FirstForm.Verdicts.{IsRight, verdicts_of}
 
 -- ---- class A {
 --        static int n = N;
@@ -30,19 +27,19 @@ use Rattle.jr_journal.specs.Report.{report}
 --        public static void main(String[] args) { System.out.println(twice(n)); }
 --      }
 
-n : FieldId
+abbrev pub n : FieldId
 n = record { 0 = 0 }
 
-twice : MethodId
+abbrev pub twice : MethodId
 twice = record { 0 = 0 }
 
-main : MethodId
+abbrev pub main : MethodId
 main = record { 0 = 1 }
 
-guest : GuestNo
+abbrev pub guest : GuestNo
 guest = record { 0 = 1 }
 
-doubling : ℤ → Program
+abbrev pub doubling : ℤ → Program
 doubling value = record {
   fields = value ∷ [];
   methods = record { formals = 1; preconditions = record { 0 = 1 } ∷ []; body = []; returned = Some (Plus (Local 0) (Local 0)) }
@@ -50,7 +47,7 @@ doubling value = record {
   clauses = record { kind = Requires; place = record { line = 3; column = 7 }; condition = record { comparison = Greater; left = Local 0; right = Number (pos 0) } } ∷ [];
 }
 
-made : Deed → Reply → Event
+abbrev pub made : Deed → Reply → Event
 made deed reply = Step guest deed reply
 
 -- the steps up to the call of twice
@@ -58,7 +55,7 @@ up_to_call : ℤ → List Event
 up_to_call value = made (Call main None []) replies.Unit ∷ made (Get (cell_of n)) (replies.Value (Int value)) ∷ []
 
 -- a whole run, with a verdict at its call
-run : ℤ → ℤ → Verdict → List Event
+abbrev pub run : ℤ → ℤ → Verdict → List Event
 run value double verdict =
     made (Call main None []) replies.Unit
     ∷ made (Get (cell_of n)) (replies.Value (Int value))
@@ -71,31 +68,17 @@ run value double verdict =
 
 -- the call of twice(2) has one verdict: True
 two-holds : verdicts_of (doubling (pos 2)) (up_to_call (pos 2)) guest (Call twice None (Int (pos 2) ∷ [])) ≡ Judged (record { 0 = 2 }) 0 True ∷ []
-unfolding doubling up_to_call made guest twice main n
+unfolding up_to_call
 two-holds = refl
 
 -- that of twice(0) has one as well: False
 none-violates : verdicts_of (doubling (pos 0)) (up_to_call (pos 0)) guest (Call twice None (Int (pos 0) ∷ [])) ≡ Judged (record { 0 = 2 }) 0 False ∷ []
-unfolding doubling up_to_call made guest twice main n
+unfolding up_to_call
 none-violates = refl
 
 -- the runs are rightly judged
 two-right : IsRight (doubling (pos 2)) (run (pos 2) (pos 4) True)
-unfolding doubling run made guest twice main n
 two-right = (tt, (tt, (tt, (record { worth = refl; in_order = All-nil _ }, (tt, (tt, (tt, (tt, tt))))))))
 
 none-right : IsRight (doubling (pos 0)) (run (pos 0) (pos 0) False)
-unfolding doubling run made guest twice main n
 none-right = (tt, (tt, (tt, (record { worth = refl; in_order = All-nil _ }, (tt, (tt, (tt, (tt, tt))))))))
-
--- and this is printed of them
-two-report : report (doubling (pos 2)) (run (pos 2) (pos 4) True) Finished ≡
-    codes "out 1: 4" ∷ codes "finish Finished" ∷ codes "steps 7, guests 1, verdicts 1, violations 0, uncaught 0" ∷ []
-unfolding doubling run made guest twice main n digits
-two-report = refl
-
-none-report : report (doubling (pos 0)) (run (pos 0) (pos 0) False) Finished ≡
-    codes "out 1: 0" ∷ codes "violation 1: requires False at 3:7, guest 1, step 2" ∷ codes "finish Finished"
-    ∷ codes "steps 7, guests 1, verdicts 1, violations 1, uncaught 0" ∷ []
-unfolding doubling run made guest twice main n digits
-none-report = refl

@@ -15,9 +15,9 @@ use Rattle.jr_base.specs.declared.finish.Verdict.{Verdict}
 use Rattle.jr_ast.specs.Programs.{Program}
 use Rattle.jr_journal.specs.Along.{Along, Each}
 use Rattle.jr_journal.specs.Event.{Event, Step, Judged}
-use Rattle.jr_journal.specs.World.{World, after, start_world}
-use Rattle.jr_journal.specs.History.{world_from, world_after, replies_of, step_count, steps_in, MayCome, MayStep, IsLegal}
-use Rattle.jr_journal.specs.Verdicts.{Moment, moment_from, moment_of, due_at, due, value_at, value_of, places_judged, MayJudge, MayStand, IsRight, verdict_of, OwesNothing, judged_from, values_at, verdicts_of, step_judged}
+use Rattle.jr_journal.specs.FirstForm.World.{World, after, start_world}
+use Rattle.jr_journal.specs.FirstForm.History.{world_from, world_after, replies_of, step_count, steps_in, MayCome, MayStep, IsLegal}
+use Rattle.jr_journal.specs.FirstForm.Verdicts.{Moment, moment_from, moment_of, due_at, due, value_at, value_of, places_judged, MayJudge, MayStand, IsRight, verdict_of, OwesNothing, judged_from, values_at, verdicts_of, step_judged}
 use Rattle.jr_journal.proofs.Histories.{Each-snoc, world_from-step, step_count-step, replies_of-own}
 
 -- ---- moments

@@ -9,10 +9,10 @@ use Rattle.jr_base.specs.declared.action.Reply.{Reply}
 use Rattle.jr_base.specs.declared.finish.Verdict.{Verdict}
 use Rattle.jr_ast.specs.Programs.{Program}
 use Rattle.jr_journal.specs.Event.{Event, Step}
-use Rattle.jr_journal.specs.History.{step_count, steps_in}
-use Rattle.jr_journal.specs.Verdicts.{Moment, due_of, due_at, value_at, judged_from, values_at, step_judged}
+use Rattle.jr_journal.specs.FirstForm.History.{step_count, steps_in}
+use Rattle.jr_journal.specs.FirstForm.Verdicts.{Moment, due_of, due_at, value_at, judged_from, values_at, step_judged}
 use Rattle.jr_journal.proofs.Judging.{step_count-judged}
-use Rattle.jr_journal.specs.Layout.{JudgedStep, entries_of, IsJudgedWhole, FollowTheirSteps}
+use Rattle.jr_journal.specs.FirstForm.Layout.{JudgedStep, entries_of, IsJudgedWhole, FollowTheirSteps}
 
 pub steps-counted : (k : ℕ) (steps : List JudgedStep) → step_count (entries_of k steps) ≡ length steps
 steps-counted k [] = refl

@@ -1,10 +1,3 @@
 pub mod Along
 pub mod Event
-pub mod Finish
-pub mod History
-pub mod Layout
-pub mod Next
-pub mod Report
-pub mod Right
-pub mod Verdicts
-pub mod World
+pub mod FirstForm

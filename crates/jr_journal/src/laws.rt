@@ -5,14 +5,12 @@ ghost use Rattle.jr_base.specs.declared.number.MethodId.{MethodId};
 ghost use Rattle.jr_base.specs.declared.action.Body.{Body};
 ghost use Rattle.jr_base.specs.declared.value.Value.{Value};
 ghost use Rattle.jr_base.specs.declared.number.Stamp.{Stamp};
-ghost use Rattle.jr_base.specs.declared.finish.Finish.{Finish};
 ghost use Rattle.jr_base.specs.declared.finish.Verdict.{Verdict};
-ghost use Rattle.jr_journal.specs.Event.{Event, Judged, steps_of};
+ghost use Rattle.jr_journal.specs.Event.{Event, Judged};
 ghost use Rattle.jr_ast.specs.Programs.{Program};
-ghost use Rattle.jr_journal.specs.History.{IsLegal, step_count};
-ghost use Rattle.jr_journal.specs.Verdicts.{IsRight, OwesNothing, verdict_of, value_of};
-ghost use Rattle.jr_journal.specs.Report.{report};
-ghost use Rattle.jr_journal.specs.Next.{Tape, NoTurns, bounded_call, call, call_with, guest_run};
+ghost use Rattle.jr_journal.specs.FirstForm.History.{IsLegal, step_count};
+ghost use Rattle.jr_journal.specs.FirstForm.Verdicts.{IsRight, OwesNothing, verdict_of, value_of};
+ghost use Rattle.jr_journal.specs.FirstForm.Next.{Tape, NoTurns, bounded_call, call, call_with, guest_run};
 
 /// What a legal history begins with is a legal history.
 pub fn prefixes_are_legal()
@@ -57,12 +55,4 @@ pub fn verdicts_rise()
 pub fn verdicts_are_values()
     ensures { (program : Program) (h : List Event) → IsRight program h → OwesNothing program h → (k place : ℕ) →
         verdict_of h k place ≡ value_of program h k place }
-{}
-
-/// The steps of rightly judged histories that owe nothing fix their report: when their clauses were judged
-/// plays no part.
-pub fn steps_fix_the_report()
-    ensures { (program : Program) (h h2 : List Event) (finish : Finish) →
-        IsRight program h → OwesNothing program h → IsRight program h2 → OwesNothing program h2 → steps_of h ≡ steps_of h2 →
-        report program h finish ≡ report program h2 finish }
 {}

@@ -9,9 +9,11 @@ use Rattle.jr_base.specs.declared.refusal.Refusal.TheVariants.{BadUtf8, BadToken
 use Rattle.jr_lexer.specs.declared.kind.Kind.{Kind}
 use Rattle.jr_lexer.specs.declared.kind.Kind.TheVariants as k
 use Rattle.jr_lexer.specs.Signs.{Sign, longest_sign}
+use Rattle.jr_lexer.specs.declared.number.Number.{Number}
+use Rattle.jr_lexer.specs.Numbers.{big_literal, no_number}
 use Rattle.jr_lexer.specs.Token.{Token}
 use Rattle.jr_lexer.specs.Refusals.{is_lexical, RefusesLexically}
-use Rattle.jr_lexer.specs.Lexical.{Text, Piece, Read, Quoted, here, literal, number_of, digits, in_name, in_backslash_word, in_line, begins_name, is_blank, begins_line_comment, begins_block_comment, word, backslash_word, integer, quoted, string_of, string, sign_of, sign, token, after, go_on, pieces, jml_piece, is_fresh, annotation, of_len, line_comment, before_close, without_last_ats, closed_comment, block_comment, java_piece, java, tokens}
+use Rattle.jr_lexer.specs.Lexical.{Text, Piece, Read, Quoted, here, literal, number_of, digits, is_long, integer_len, integer_number, in_name, in_backslash_word, in_line, begins_name, is_blank, begins_line_comment, begins_block_comment, word, backslash_word, integer, quoted, string_of, string, sign_of, sign, token, after, go_on, pieces, jml_piece, is_fresh, annotation, of_len, line_comment, before_close, without_last_ats, closed_comment, block_comment, java_piece, java, tokens}
 
 -- a record, so that what is read is inferred
 record Lexical {A : Type 0} (read : Result A Refusal) : Type 0 where
@@ -35,18 +37,18 @@ of_backslash : (jml : Bool) (at : ℕ) (z : Text) → Lexical (backslash_word jm
 unfolding backslash_word
 of_backslash jml at z = either (prefix_len in_backslash_word (drop 1 z) == 0) _ _ (refused (BadToken (here at)) refl) (read _)
 
-of_literal : (jml : Bool) (at : ℕ) (z : Text) (kind : Kind) (text : List ℕ) (number n : ℕ) → Lexical (literal jml at z kind text number n)
+of_literal : (jml : Bool) (at : ℕ) (z : Text) (kind : Kind) (text : List ℕ) (number : Number) (n : ℕ) → Lexical (literal jml at z kind text number n)
 of_literal jml at z kind text number n = either (in_name (slice_index z n)) _ _ (refused (BadToken (here at)) refl) (read _)
 
 of_integer : (jml : Bool) (at : ℕ) (z : Text) → Lexical (integer jml at z)
 unfolding integer
 of_integer jml at z =
-    either (nat_lt 2147483648 (number_of (take (digits z) z))) _ _ (refused (BigLiteral (here at)) refl)
-    (of_literal jml at z k.Integer (take (digits z) z) (number_of (take (digits z) z)) (digits z))
+    either (nat_lt (big_literal (is_long z)) (number_of (take (digits z) z))) _ _ (refused (BigLiteral (here at)) refl)
+    (of_literal jml at z k.Integer (take (integer_len z) z) (integer_number z) (integer_len z))
 
 of_quoted : (jml : Bool) (at : ℕ) (z : Text) (q : Quoted) → Lexical (string_of jml at z q)
 of_quoted jml at z None = refused (BadToken (here at)) refl
-of_quoted jml at z (Some q) = either (nat_lt 256 (length q.0)) _ _ (refused (LongText (here at)) refl) (of_literal jml at z k.Text q.0 0 (q.1 + 1))
+of_quoted jml at z (Some q) = either (nat_lt 256 (length q.0)) _ _ (refused (LongText (here at)) refl) (of_literal jml at z k.Text q.0 no_number (q.1 + 1))
 
 of_string : (jml : Bool) (at : ℕ) (z : Text) → Lexical (string jml at z)
 unfolding string

@@ -13,6 +13,8 @@ use Rattle.jr_ops.specs.Keywords.{keyword_row}
 use Rattle.jr_lexer.specs.declared.kind.TheConstants.{KEYWORD_KINDS}
 use Rattle.jr_lexer.specs.declared.kind.Kind.{Kind}
 use Rattle.jr_lexer.specs.declared.kind.Kind.TheVariants as k
+use Rattle.jr_lexer.specs.declared.number.Number.{Number}
+use Rattle.jr_lexer.specs.Numbers.{big_literal, no_number}
 use Rattle.jr_lexer.specs.Signs.{Sign, longest_sign}
 use Rattle.jr_lexer.specs.Token.{Token}
 
@@ -32,7 +34,7 @@ abbrev pub skip : ℕ → Piece
 skip n = Ok ([], n)
 
 -- one token of that many bytes
-abbrev pub one : Bool → ℕ → Kind → List ℕ → ℕ → ℕ → Piece
+abbrev pub one : Bool → ℕ → Kind → List ℕ → Number → ℕ → Piece
 one jml at kind text number n = Ok (record { kind = kind; text = text; number = number; span = record { start = at; end = at + n }; jml = jml } ∷ [], n)
 
 -- ---- characters
@@ -74,7 +76,7 @@ word_kind jml word = kind_of_row (keyword_row word jml)
 
 -- letters, digits, `_` and `$`, as many as there are (JLS 3.8, 3.9)
 unfoldable pub word : Bool → ℕ → Text → Piece
-word jml at z = let n = prefix_len in_name z in one jml at (word_kind jml (take n z)) (take n z) 0 n
+word jml at z = let n = prefix_len in_name z in one jml at (word_kind jml (take n z)) (take n z) no_number n
 
 -- the kind of a word behind its backslash
 unfoldable pub backslash_kind : List ℕ → Kind
@@ -93,12 +95,12 @@ backslash_kind w =
 unfoldable pub backslash_word : Bool → ℕ → Text → Piece
 backslash_word jml at z =
     let n = prefix_len in_backslash_word (drop 1 z) in
-    if n == 0 then Err (BadToken (here at)) else one jml at (backslash_kind (take n (drop 1 z))) (take (n + 1) z) 0 (n + 1)
+    if n == 0 then Err (BadToken (here at)) else one jml at (backslash_kind (take n (drop 1 z))) (take (n + 1) z) no_number (n + 1)
 
 -- ---- literals
 
 -- a literal is not followed at once by a letter, a digit, `_` or `$`
-abbrev pub literal : Bool → ℕ → Text → Kind → List ℕ → ℕ → ℕ → Piece
+abbrev pub literal : Bool → ℕ → Text → Kind → List ℕ → Number → ℕ → Piece
 literal jml at z kind text number n = if in_name (slice_index z n) then Err (BadToken (here at)) else one jml at kind text number n
 
 -- the number that decimal digits write
@@ -109,11 +111,28 @@ number_of ds = fold (λ n d. n * 10 + (d - 48)) 0 ds
 abbrev pub digits : Text → ℕ
 digits z = if slice_index z 0 == 48 then 1 else prefix_len is_ascii_digit z
 
--- decimal digits (JLS 3.10.1), up to 2147483648, which stands only behind a minus
+-- `L` or `l`
+abbrev pub is_long_letter : ℕ → Bool
+is_long_letter b = b == 76 || b == 108
+
+-- whether the literal at the front has the letter behind its digits
+abbrev pub is_long : Text → Bool
+is_long z = is_long_letter (slice_index z (digits z))
+
+-- how many bytes the literal at the front takes, its letter among them
+abbrev pub integer_len : Text → ℕ
+integer_len z = if is_long z then digits z + 1 else digits z
+
+-- what the literal at the front writes
+abbrev pub integer_number : Text → Number
+integer_number z = record { value = number_of (take (digits z) z); is_long = is_long z }
+
+-- Decimal digits, and at most one `L` or `l` (JLS 3.10.1), up to the greatest literal of the type.
 unfoldable pub integer : Bool → ℕ → Text → Piece
 integer jml at z =
-    let ds = take (digits z) z in
-    if nat_lt 2147483648 (number_of ds) then Err (BigLiteral (here at)) else literal jml at z k.Integer ds (number_of ds) (digits z)
+    let number = integer_number z in
+    if nat_lt (big_literal number.is_long) number.value then Err (BigLiteral (here at))
+    else literal jml at z k.Integer (take (integer_len z) z) number (integer_len z)
 
 -- what an escape stands for, by the byte behind its backslash (JLS 3.10.7): `\n`, `\t`, `\"` and `\\`
 abbrev pub escape : ℕ → Option ℕ
@@ -143,7 +162,7 @@ quoted escaped (b ∷ z) = string_byte escaped b (quoted (b == 92 && not escaped
 
 abbrev pub string_of : Bool → ℕ → Text → Quoted → Piece
 string_of jml at z None = Err (BadToken (here at))
-string_of jml at z (Some q) = if nat_lt 256 (length q.0) then Err (LongText (here at)) else literal jml at z k.Text q.0 0 (q.1 + 1)
+string_of jml at z (Some q) = if nat_lt 256 (length q.0) then Err (LongText (here at)) else literal jml at z k.Text q.0 no_number (q.1 + 1)
 
 -- between double quotes on one line (JLS 3.10.5), at most 256 bytes
 unfoldable pub string : Bool → ℕ → Text → Piece
@@ -153,7 +172,7 @@ string jml at z = string_of jml at z (quoted false (drop 1 z))
 
 abbrev pub sign_of : Bool → ℕ → Text → Option Sign → Piece
 sign_of jml at z None = Err (BadToken (here at))
-sign_of jml at z (Some s) = one jml at s.kind (take (length s.spelling) z) 0 (length s.spelling)
+sign_of jml at z (Some s) = one jml at s.kind (take (length s.spelling) z) no_number (length s.spelling)
 
 unfoldable pub sign : Bool → ℕ → Text → Piece
 sign jml at z = sign_of jml at z (longest_sign jml z)

@@ -4,6 +4,7 @@ pub mod Classes
 pub mod Found
 pub mod Lexical
 pub mod Literals
+pub mod Numbers
 pub mod Reading
 pub mod Refusals
 pub mod Signs

@@ -3,6 +3,8 @@ use Rattle.std.specs.Prelude.{ℕ, ◌-◌, Bool, false, List, [], length, Optio
 use Rattle.jr_base.specs.declared.number.Span.{Span}
 use Rattle.jr_lexer.specs.declared.kind.Kind.{Kind}
 use Rattle.jr_lexer.specs.declared.kind.Kind.TheVariants as k
+use Rattle.jr_lexer.specs.declared.number.Number.{Number}
+use Rattle.jr_lexer.specs.Numbers.{big_literal, no_number}
 use Rattle.jr_lexer.specs.Token.{Token}
 
 abbrev pub kind_of : Option Token → Kind
@@ -13,8 +15,8 @@ abbrev pub text_of : Option Token → List ℕ
 text_of None = []
 text_of (Some t) = t.text
 
-abbrev pub number_of : Option Token → ℕ
-number_of None = 0
+abbrev pub number_of : Option Token → Number
+number_of None = no_number
 number_of (Some t) = t.number
 
 abbrev pub is_jml : Option Token → Bool
@@ -29,9 +31,17 @@ kind_at ts at = kind_of (slice_get ts at)
 abbrev pub text_at : List Token → ℕ → List ℕ
 text_at ts at = text_of (slice_get ts at)
 
--- the number that the token at a place writes, 0 behind the last
-abbrev pub number_at : List Token → ℕ → ℕ
+-- the number that the token at a place writes, the int 0 behind the last
+abbrev pub number_at : List Token → ℕ → Number
 number_at ts at = number_of (slice_get ts at)
+
+-- its value
+abbrev pub value_at : List Token → ℕ → ℕ
+value_at ts at = (number_at ts at).value
+
+-- the greatest literal of its type
+abbrev pub big_at : List Token → ℕ → ℕ
+big_at ts at = big_literal (number_at ts at).is_long
 
 -- whether the token at a place stands in an annotation, not so behind the last
 abbrev pub jml_at : List Token → ℕ → Bool

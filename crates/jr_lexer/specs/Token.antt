@@ -2,15 +2,16 @@
 use Rattle.std.specs.Prelude.{◌≤◌, ℕ, ◌+◌, Bool, List, [], ◌∷◌, map, take, drop}
 use Rattle.jr_base.specs.declared.number.Span.{Span}
 use Rattle.jr_lexer.specs.declared.kind.Kind.{Kind}
+use Rattle.jr_lexer.specs.declared.number.Number.{Number}
 use Rattle.jr_lexer.specs.declared.stored.Stored.{Stored}
 
 -- A token: its kind, its text, the number that it writes, the bytes of the source that it takes, and
 -- whether it stands in an annotation. The text of a string literal is what it stands for, the text of any
--- other token is its spelling. Only an integer literal writes a number, others have 0.
+-- other token is its spelling. Only an integer literal writes a number, others have the int 0.
 pub record Token : Type 0 where
   pub kind : Kind
   pub text : List ℕ
-  pub number : ℕ
+  pub number : Number
   pub span : Span
   pub jml : Bool
 

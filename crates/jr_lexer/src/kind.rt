@@ -7,7 +7,7 @@ pub enum Kind {
     End,
     /// A name (JLS 3.8).
     Name,
-    /// An integer literal (JLS 3.10.1).
+    /// An integer literal, of either type (JLS 3.10.1).
     Integer,
     /// A string literal (JLS 3.10.5).
     Text,
@@ -92,6 +92,8 @@ pub enum Kind {
     NonNull,
     SpecPublic,
     SpecProtected,
+    SpecSafeMath,
+    SpecJavaMath,
     Requires,
     Ensures,
     When,
@@ -221,7 +223,7 @@ pub enum Kind {
 }
 
 /// The kinds of the keywords, in the order of the rows of their table.
-pub static KEYWORD_KINDS: [Kind; 81] = [
+pub static KEYWORD_KINDS: [Kind; 83] = [
     Kind::Package,
     Kind::Import,
     Kind::Class,
@@ -282,6 +284,8 @@ pub static KEYWORD_KINDS: [Kind; 81] = [
     Kind::NonNull,
     Kind::SpecPublic,
     Kind::SpecProtected,
+    Kind::SpecSafeMath,
+    Kind::SpecJavaMath,
     Kind::Requires,
     Kind::Ensures,
     Kind::When,

@@ -8,7 +8,8 @@ ghost use Rattle.jr_lexer.specs.Refusals.{RefusesLexically};
 ghost use Rattle.jr_lexer.specs.Adds.{joined, Adds, AddsAll, Moves};
 
 use crate::kind::Kind;
-use crate::literal::{MAX_INTEGER, digits, number_of, quoted};
+use crate::literal::{digits, is_long, number_of, quoted};
+use crate::number::{NO_NUMBER, Number, big_literal};
 use crate::place::Place;
 use crate::scan::{Class, before_close, begins_name, byte, is_blank, is_in, run, without_last_ats};
 use crate::sign::longest_sign;
@@ -63,7 +64,7 @@ fn one(
     place: Place,
     kind: Kind,
     text: &[u8],
-    number: u32,
+    number: Number,
     len: usize,
 ) -> Result<usize, Fail>
     requires room { length tokens.old ≤ place.at }
@@ -90,7 +91,14 @@ fn word(tokens: &mut Tokens, place: Place) -> Result<usize, Fail>
 {
     let len = run(Class::Name, place.text);
     let text = &place.text[..len];
-    one(tokens, place, word_kind(place.jml, text), text, 0, len)
+    one(
+        tokens,
+        place,
+        word_kind(place.jml, text),
+        text,
+        NO_NUMBER,
+        len,
+    )
 }
 
 #[tactic(auto, unfolding(crate::specs::Lexical::backslash_word))]
@@ -105,7 +113,14 @@ fn backslash_word(tokens: &mut Tokens, place: Place) -> Result<usize, Fail>
         return Err(Fail::Refused(Refusal::BadToken(here(place.at))));
     }
     let kind = backslash_kind(&place.text[1..][..len]);
-    one(tokens, place, kind, &place.text[..len + 1], 0, len + 1)
+    one(
+        tokens,
+        place,
+        kind,
+        &place.text[..len + 1],
+        NO_NUMBER,
+        len + 1,
+    )
 }
 
 /// Adds a literal, unless a letter, digit, `_` or `$` follows at once.
@@ -114,7 +129,7 @@ fn literal(
     place: Place,
     kind: Kind,
     text: &[u8],
-    number: u32,
+    number: Number,
     len: usize,
 ) -> Result<usize, Fail>
     requires room { length tokens.old ≤ place.at }
@@ -137,13 +152,22 @@ fn integer(tokens: &mut Tokens, place: Place) -> Result<usize, Fail>
     ensures value { Adds (joined tokens.old (spec.integer place.entry.jml place.entry.at place.entry.text.now)) result tokens.new }
     ensures moves { Moves place.entry result tokens.new }
 {
-    let len = digits(place.text);
-    let text = &place.text[..len];
-    let number = number_of(text);
-    if number > MAX_INTEGER {
+    let count = digits(place.text);
+    let is_long = is_long(place.text, count);
+    let value = number_of(&place.text[..count]);
+    if value > big_literal(is_long) {
         return Err(Fail::Refused(Refusal::BigLiteral(here(place.at))));
     }
-    literal(tokens, place, Kind::Integer, text, number, len)
+    let len = if is_long { count + 1 } else { count };
+    let number = Number { value, is_long };
+    literal(
+        tokens,
+        place,
+        Kind::Integer,
+        &place.text[..len],
+        number,
+        len,
+    )
 }
 
 #[tactic(auto, unfolding(crate::specs::Lexical::string))]
@@ -158,7 +182,7 @@ fn string(alloc: Global, tokens: &mut Tokens, place: Place) -> Result<usize, Fai
         Some((text, _)) if text.len() > MAX_TEXT => {
             Err(Fail::Refused(Refusal::LongText(here(place.at))))
         }
-        Some((text, len)) => literal(tokens, place, Kind::Text, &text, 0, len + 1),
+        Some((text, len)) => literal(tokens, place, Kind::Text, &text, NO_NUMBER, len + 1),
     }
 }
 
@@ -170,7 +194,7 @@ fn sign(tokens: &mut Tokens, place: Place) -> Result<usize, Fail>
 {
     match longest_sign(place.jml, place.text) {
         None => Err(Fail::Refused(Refusal::BadToken(here(place.at)))),
-        Some((kind, len)) => one(tokens, place, kind, &place.text[..len], 0, len),
+        Some((kind, len)) => one(tokens, place, kind, &place.text[..len], NO_NUMBER, len),
     }
 }
 

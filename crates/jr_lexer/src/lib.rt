@@ -6,6 +6,7 @@
 pub mod kind;
 mod lexer;
 mod literal;
+pub mod number;
 mod place;
 mod scan;
 mod sign;
@@ -17,4 +18,5 @@ mod words;
 
 pub use kind::Kind;
 pub use lexer::{lex, refusals_are_lexical};
+pub use number::{Number, big_literal};
 pub use tokens::Tokens;

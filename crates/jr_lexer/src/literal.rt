@@ -4,13 +4,12 @@ ghost use Rattle.std.specs.Prelude.{◌≡◌, ◌<◌, ◌≤◌, ◌+◌, fals
 ghost use Rattle.std.specs.Char.{is_ascii_digit};
 ghost use Rattle.jr_lexer.specs.Lexical as spec;
 ghost use Rattle.jr_lexer.specs.Literals.{Quotes};
+ghost use Rattle.jr_lexer.specs.Numbers.{big_long};
 
+use crate::number::BIG_LONG;
 use crate::scan::{Class, byte, run};
 use jr_base::Memory;
 use std::alloc::Global;
-
-/// The greatest integer literal, which stands only behind a minus.
-pub(crate) const MAX_INTEGER: u32 = 2_147_483_648;
 
 /// How many digits the literal at the front has.
 pub(crate) fn digits(z: &[u8]) -> usize
@@ -25,15 +24,26 @@ pub(crate) fn digits(z: &[u8]) -> usize
     }
 }
 
-/// The number that decimal digits write, or `MAX_INTEGER + 1` where it is greater.
-pub(crate) fn number_of(digits: &[u8]) -> u32
-    ensures { result ≡ min (spec.number_of digits.now) 2147483649 }
+/// Whether the letter of `long` stands behind that many digits at the front.
+pub(crate) fn is_long(z: &[u8], digits: usize) -> bool
+    requires { digits ≡ spec.digits z.now }
+    ensures value { result ≡ spec.is_long z.now }
+    ensures within { result ≡ true → digits < length z.now }
 {
-    let mut number: u64 = 0;
+    let b = byte(z, digits);
+    b == b'L' || b == b'l'
+}
+
+/// The number that decimal digits write, or one more than the greatest literal where it is greater.
+pub(crate) fn number_of(digits: &[u8]) -> u64
+    ensures { result ≡ min (spec.number_of digits.now) (big_long + 1) }
+{
+    let mut number: u128 = 0;
     for digit in digits {
-        number = (number * 10 + u64::from(digit.saturating_sub(b'0'))).min(2_147_483_649);
+        let next = number * 10 + u128::from(digit.saturating_sub(b'0'));
+        number = next.min(u128::from(BIG_LONG) + 1);
     }
-    number as u32
+    number as u64
 }
 
 /// Reads a string from behind its opening quote on. Gives what it stands for, and how many bytes it takes

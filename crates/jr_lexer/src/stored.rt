@@ -1,6 +1,7 @@
 //! A token without its text.
 
 use crate::kind::Kind;
+use crate::number::Number;
 use jr_base::Span;
 
 /// A token, whose text stands among all texts from `start` on.
@@ -8,7 +9,7 @@ use jr_base::Span;
 pub(crate) struct Stored {
     pub kind: Kind,
     pub jml: bool,
-    pub number: u32,
+    pub number: Number,
     pub span: Span,
     pub start: usize,
     pub len: u32,

@@ -69,7 +69,7 @@ fn check(rt: &impl Abort, alloc: Global, rows: &[(&[u8], &[u8])]) -> Result<(), 
     Ok(())
 }
 
-static WORDS: [(&[u8], &[u8]); 18] = [
+static WORDS: [(&[u8], &[u8]); 20] = [
     // Blanks, and what is none.
     (b"", b""),
     (
@@ -86,6 +86,14 @@ static WORDS: [(&[u8], &[u8]); 18] = [
     ),
     (b"class classes goto", b"Class Name(classes) Goto"),
     (b"pure requires set", b"Name(pure) Name(requires) Name(set)"),
+    (
+        b"spec_safe_math spec_java_math long",
+        b"Name(spec_safe_math) Name(spec_java_math) Long",
+    ),
+    (
+        b"/*@ spec_safe_math spec_java_math long @*/",
+        b"'SpecSafeMath 'SpecJavaMath 'Long",
+    ),
     (b"//@ pure requires set", b"'Pure 'Requires 'Set"),
     (b"/*@ class commit */", b"'Class 'Name(commit)"),
     // Words with a backslash.
@@ -230,7 +238,7 @@ fn reads_annotations(rt: HostRuntime) -> Result<(), test::Fail> {
     check(&rt, rt.alloc(), &ANNOTATIONS)
 }
 
-static INTEGERS: [(&[u8], &[u8]); 16] = [
+static INTEGERS: [(&[u8], &[u8]); 29] = [
     // Integers.
     (
         b"0 7 10 2147483647",
@@ -254,6 +262,29 @@ static INTEGERS: [(&[u8], &[u8]); 16] = [
     (b"1\"a\"", b"Integer(1) Text(a)"),
     (b"//@ 1\\old", b"'Integer(1) 'BackslashOld"),
     (b"1\xc3\xa9", b"BadToken 1"),
+    // With a letter.
+    (b"1L 1l 0L", b"Integer(1L) Integer(1l) Integer(0L)"),
+    (
+        b"2147483648L 9223372036854775807l 9223372036854775808L",
+        b"Integer(2147483648L) Integer(9223372036854775807l) Integer(9223372036854775808L)",
+    ),
+    (
+        b"-9223372036854775808L",
+        b"Minus Integer(9223372036854775808L)",
+    ),
+    (b"9223372036854775809L", b"BigLiteral 0"),
+    (b"9223372036854775808", b"BigLiteral 0"),
+    (b"9223372036854775809Lx", b"BigLiteral 0"),
+    (
+        b"99999999999999999999999999999999999999999999L",
+        b"BigLiteral 0",
+    ),
+    (b"1LL", b"BadToken 0"),
+    (b"1lL", b"BadToken 0"),
+    (b"01L", b"BadToken 0"),
+    (b"1L2", b"BadToken 0"),
+    (b"1 L", b"Integer(1) Name(L)"),
+    (b"//@ 1L\\old", b"'Integer(1L) 'BackslashOld"),
 ];
 
 #[test]
@@ -357,6 +388,25 @@ fn knows_keywords(rt: HostRuntime) -> Result<(), test::Fail> {
     Ok(())
 }
 
+/// Each row is a source, and what its first token writes.
+static NUMBERS: [(&[u8], u64, bool); 6] = [
+    (b"7", 7, false),
+    (b"7L", 7, true),
+    (b"2147483648", 2_147_483_648, false),
+    (b"2147483648l", 2_147_483_648, true),
+    (b"9223372036854775808L", 9_223_372_036_854_775_808, true),
+    (b"\"7\"", 0, false),
+];
+
+#[test]
+fn tells_numbers(rt: HostRuntime) -> Result<(), test::Fail> {
+    for (source, value, is_long) in NUMBERS {
+        let number = lex(rt.alloc(), source)?.number(0);
+        assert_eq!(rt; number, Number { value, is_long });
+    }
+    Ok(())
+}
+
 #[test]
 fn gives_places(rt: HostRuntime) -> Result<(), test::Fail> {
     let tokens = lex(rt.alloc(), b"ab \"c\\n\"\n//@ 12 ")?;
@@ -365,7 +415,13 @@ fn gives_places(rt: HostRuntime) -> Result<(), test::Fail> {
     assert_eq!(rt; tokens.span(1), Span { start: 3, end: 8 });
     assert_eq!(rt; tokens.text(1), b"c\n".as_slice());
     assert_eq!(rt; tokens.span(2), Span { start: 13, end: 15 });
-    assert_eq!(rt; tokens.number(2), 12);
+    assert_eq!(rt;
+        tokens.number(2),
+        Number {
+            value: 12,
+            is_long: false
+        }
+    );
     assert!(rt; tokens.is_jml(2) && !tokens.is_jml(1));
     assert_eq!(rt; tokens.end(), 15);
     assert_eq!(rt; tokens.kind(3), Kind::End);

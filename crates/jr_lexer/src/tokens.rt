@@ -5,6 +5,7 @@ ghost use Rattle.jr_lexer.specs.Reading as spec;
 ghost use Rattle.jr_lexer.specs.Token.{tokens_of, AllWithin};
 
 use crate::kind::Kind;
+use crate::number::{NO_NUMBER, Number};
 use crate::stored::Stored;
 use jr_base::{Memory, Span};
 use std::alloc::Global;
@@ -48,7 +49,7 @@ impl Tokens {
         kind: Kind,
         jml: bool,
         text: &[u8],
-        number: u32,
+        number: Number,
         span: Span,
     ) -> Result<(), Memory>
         requires room { length self.old < 1048576 }
@@ -103,12 +104,12 @@ impl Tokens {
         text_in(&self.stored, &self.texts, at as usize)
     }
 
-    /// The number that the token at a place writes: that of an integer literal, or else 0.
-    pub fn number(&self, at: u32) -> u32
+    /// The number that the token at a place writes: that of an integer literal, or else the `int` 0.
+    pub fn number(&self, at: u32) -> Number
         ensures { result ≡ spec.number_at self.now at }
     {
         match self.stored.get(at as usize) {
-            None => 0,
+            None => NO_NUMBER,
             Some(token) => token.number,
         }
     }

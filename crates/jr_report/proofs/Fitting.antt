@@ -14,9 +14,9 @@ use Rattle.jr_base.specs.declared.value.Cell.{Cell}
 use Rattle.jr_ast.specs.Programs.{Program, Method, Statement, SetLocal, SetField, Do, Println, Expr, Number, Local, Field, Plus, Minus, CallOf, Exprs, no_more, and_then, method_at}
 use Rattle.jr_journal.specs.Along.{Along}
 use Rattle.jr_journal.specs.Event.{Event, Step, Judged}
-use Rattle.jr_journal.specs.World.{World, Guest, guest_at, after, put, ended, mark_ended, start_world}
-use Rattle.jr_journal.specs.Next.{Wants, Tape, Variables, Out, Got, Stops, NoTurns, then_do, ask, Calls, eval, eval_all, exec, block, returns, body, bounded_call, guest_run, next, next_in}
-use Rattle.jr_journal.specs.History.{MayCome, IsLegal, world_from, world_after, body_of, replies_of}
+use Rattle.jr_journal.specs.FirstForm.World.{World, Guest, guest_at, after, put, ended, mark_ended, start_world}
+use Rattle.jr_journal.specs.FirstForm.Next.{Wants, Tape, Variables, Out, Got, Stops, NoTurns, then_do, ask, Calls, eval, eval_all, exec, block, returns, body, bounded_call, guest_run, next, next_in}
+use Rattle.jr_journal.specs.FirstForm.History.{MayCome, IsLegal, world_from, world_after, body_of, replies_of}
 use Rattle.jr_report.specs.Fits.{DeedFits, EventFits}
 
 -- it doesn't stop at a deed without room

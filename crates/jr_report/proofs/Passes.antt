@@ -12,12 +12,12 @@ use Rattle.jr_base.specs.declared.finish.Verdict.{Verdict}
 use Rattle.jr_base.specs.declared.finish.Verdict.TheVariants as verdicts
 use Rattle.jr_ast.specs.Programs.{Program}
 use Rattle.jr_journal.specs.Event.{Event, Step, Judged}
-use Rattle.jr_journal.specs.History.{step_count, steps_in}
-use Rattle.jr_journal.specs.Verdicts.{Moment, moment_of, due_of, verdict_of, judged_from}
-use Rattle.jr_journal.specs.Report.{Violation, violation_in, violations_from, violations_at, violations_before, violations, violation_line, numbered_lines, violation_lines, violations_in}
+use Rattle.jr_journal.specs.FirstForm.History.{step_count, steps_in}
+use Rattle.jr_journal.specs.FirstForm.Verdicts.{Moment, moment_of, due_of, verdict_of, judged_from}
+use Rattle.jr_report.specs.Report.{Violation, violation_in, violations_from, violations_at, violations_before, violations, violation_line, numbered_lines, violation_lines, violations_in}
 use Rattle.jr_journal.proofs.Judging.{moment_of-last, moment_of-more, step_count-judged, verdict_of-judged}
 use Rattle.jr_report.specs.declared.violations.LastStep.{LastStep}
-use Rattle.jr_journal.specs.Layout.{JudgedStep, entries_of, IsJudgedWhole, FollowTheirSteps}
+use Rattle.jr_journal.specs.FirstForm.Layout.{JudgedStep, entries_of, IsJudgedWhole, FollowTheirSteps}
 use Rattle.jr_report.specs.Passing.{called_by, clause_behind, lines_along}
 use Rattle.jr_journal.proofs.Layouts.{steps-counted}
 

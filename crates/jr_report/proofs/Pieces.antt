@@ -2,12 +2,12 @@
 use Rattle.std.proofs.Common.{◌≡◌, ℕ, ◌+◌, List, [], ◌∷◌, ◌++◌, ap, sym, ◌∙◌, append_assoc, append-nil, refl, Option, Some, subst, slice_get, drop, add-one, zero, suc, sum_by}
 use Rattle.std.proofs.lemmas.Grind.{flat_map-append}
 use Rattle.jr_journal.specs.Event.{Event}
-use Rattle.jr_journal.specs.Report.{out_lines, out_lines_of, violation_lines, violations_in, uncaught_lines, uncaught_lines_of, bytes_of_lines, finish_line, summary_line, summary_text, report}
+use Rattle.jr_report.specs.Report.{out_lines, out_lines_of, violation_lines, violations_in, uncaught_lines, uncaught_lines_of, bytes_of_lines, finish_line, summary_line, summary_text, report}
 use Rattle.jr_ast.specs.Programs.{Program}
 use Rattle.jr_report.specs.declared.violations.LastStep.{LastStep}
 use Rattle.jr_report.specs.Passing.{last_after, violation_lines_of, lines_along}
 use Rattle.jr_base.specs.declared.finish.Finish.{Finish}
-use Rattle.jr_journal.specs.History.{steps_in}
+use Rattle.jr_journal.specs.FirstForm.History.{steps_in}
 use Rattle.std.proofs.lemmas.List.Sums.{sum_by-cons}
 use Rattle.jr_io.specs.Writes.{WritesPiece}
 use Rattle.jr_io.proofs.WriteLaws.{nothing_written, piece_after_whole, cut_piece_of_longer}

@@ -6,8 +6,8 @@ use Rattle.jr_base.specs.declared.number.ClauseId.{ClauseId}
 use Rattle.jr_base.specs.declared.number.MethodId.{MethodId}
 use Rattle.jr_ast.specs.Programs.{Program, preconditions_of}
 use Rattle.jr_journal.specs.Event.{Event, Step, Judged}
-use Rattle.jr_journal.specs.Verdicts.{}
-use Rattle.jr_journal.specs.Report.{violation_in, numbered_lines, violations_in}
+use Rattle.jr_journal.specs.FirstForm.Verdicts.{}
+use Rattle.jr_report.specs.Report.{violation_in, numbered_lines, violations_in}
 use Rattle.jr_report.specs.declared.violations.LastStep.{LastStep}
 
 -- the method that is called

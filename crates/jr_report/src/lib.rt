@@ -1,8 +1,9 @@
 //! What is written: the report of a run, and the line of a refusal. Its one promise: the bytes are exactly the
-//! text that `jr_journal` (`specs/Report.antt`) and `specs/Refusals.antt` state, or a prefix of it where the
+//! text that `specs/Report.antt` and `specs/Refusals.antt` state, or a prefix of it where the
 //! sink met a fault. Nothing here takes memory.
 #![tactic(auto)]
 
+pub mod laws;
 mod line;
 mod refusal_line;
 mod report;

@@ -68,6 +68,16 @@ impl Line {
         self.text(digits.format(n));
     }
 
+    /// Adds a `long` in decimal.
+    pub fn long(&mut self, n: i64)
+        requires { length self.old + 20 ≤ LINE_LENGTH }
+        ensures bytes { self.new ≡ self.old ++ signed_decimal n }
+        ensures len { length self.new ≤ length self.old + 20 }
+    {
+        let mut digits = Buffer::new();
+        self.text(digits.format(n));
+    }
+
     pub fn as_bytes(&self) -> &[u8]
         ensures { result.now ≡ self.now }
     {

@@ -2,13 +2,13 @@
 
 ghost use Rattle.std.specs.Prelude.{◌≡◌, ◌+◌, ◌≤◌, ◌<◌, ◌^◌, [], ◌∷◌, ◌++◌, length, All, flat_map, decimal, codes, sum_by};
 ghost use Rattle.jr_io.specs.Writes.{WritesPiece, CountsPieceFault};
-ghost use Rattle.jr_journal.specs.Report.{report, part_text, out_line, out_lines, out_lines_of, fault_name, uncaught_line, uncaught_lines, uncaught_lines_of, kind_text, finish_line, summary_line, summary_text, bytes_of_lines, verdicts_in, violations_in, uncaught_in};
-ghost use Rattle.jr_journal.specs.History.{step_count, steps_in, world_after};
+ghost use Rattle.jr_report.specs.Report.{report, part_text, out_line, out_lines, out_lines_of, fault_name, uncaught_line, uncaught_lines, uncaught_lines_of, kind_text, finish_line, summary_line, summary_text, bytes_of_lines, verdicts_in, violations_in, uncaught_in};
+ghost use Rattle.jr_journal.specs.FirstForm.History.{step_count, steps_in, world_after};
 ghost use Rattle.jr_journal.specs.Event.{event_of};
-ghost use Rattle.jr_journal.specs.Right.{IsRightRecord};
+ghost use Rattle.jr_journal.specs.FirstForm.Right.{IsRightRecord};
 ghost use Rattle.jr_ast.specs.Programs.{program_of};
 ghost use Rattle.jr_report.specs.Fits.{EventFits};
-ghost use Rattle.jr_journal.specs.Layout.{FollowTheirSteps};
+ghost use Rattle.jr_journal.specs.FirstForm.Layout.{FollowTheirSteps};
 
 use crate::line::Line;
 use crate::violations::write_violation_lines;
@@ -103,7 +103,7 @@ fn put_parts(line: &mut Line, parts: &[PrintPart])
     requires parts { length parts.now ≤ 8 }
     requires room { length line.old ≤ 100 }
     ensures bytes { line.new ≡ line.old ++ flat_map part_text parts.now }
-    ensures len { length line.new ≤ length line.old + 88 }
+    ensures len { length line.new ≤ length line.old + 160 }
 {
     for part in parts {
         put_part(line, *part);
@@ -114,10 +114,11 @@ fn put_parts(line: &mut Line, parts: &[PrintPart])
 fn put_part(line: &mut Line, part: PrintPart)
     requires { length line.old ≤ 1000 }
     ensures bytes { line.new ≡ line.old ++ part_text part }
-    ensures len { length line.new ≤ length line.old + 11 }
+    ensures len { length line.new ≤ length line.old + 20 }
 {
     match part {
         PrintPart::Val(Value::Int(n)) => line.int(n),
+        PrintPart::Val(Value::Long(n)) => line.long(n),
         PrintPart::Val(Value::Bool(true)) => line.text("true"),
         PrintPart::Val(Value::Bool(false)) => line.text("false"),
         PrintPart::Val(Value::Null | Value::Ref(_)) | PrintPart::Text(_) => {}

@@ -4,8 +4,8 @@ ghost use Rattle.std.specs.Prelude.{◌≡◌, ◌+◌, ◌≤◌, [], ◌∷◌
 ghost use Rattle.jr_io.specs.Writes.{WritesPiece, CountsPieceFault};
 ghost use Rattle.jr_ast.specs.Programs.{program_of, clause_view};
 ghost use Rattle.jr_journal.specs.Event.{event_of};
-ghost use Rattle.jr_journal.specs.Report.{violation_lines, violation_line, clause_text, clause_kind_text, verdict_text, bytes_of_lines};
-ghost use Rattle.jr_journal.specs.Layout.{FollowTheirSteps};
+ghost use Rattle.jr_report.specs.Report.{violation_lines, violation_line, clause_text, clause_kind_text, verdict_text, bytes_of_lines};
+ghost use Rattle.jr_journal.specs.FirstForm.Layout.{FollowTheirSteps};
 ghost use Rattle.jr_report.specs.Passing.{last_after, clause_behind, violation_lines_of};
 
 use crate::line::Line;

@@ -177,6 +177,7 @@ module _ (ts : List TokenOf) (d : ℕ) where
     form_to k.Semicolon is x = empties_to x
     form_to k.OpenBrace is x = blocks_to x
     form_to k.Int is x = declarations_to x
+    form_to k.Long is x = declarations_to x
     form_to k.Boolean is x = declarations_to x
     form_to k.Final is x = finals_to x
     form_to k.If is x = ifs_to x
@@ -195,11 +196,15 @@ module _ (ts : List TokenOf) (d : ℕ) where
 
   -- ---- and the other way
 
-  -- a type and a name
-  type_kind : (i : ℕ) (a : Kind) (t : ElementType) → seen false ts i ≡ a → element_of a (name_at ts i) ≡ Some t → (a ≡ k.Int) ⊎ ((a ≡ k.Boolean) ⊎ (a ≡ k.Name))
-  type_kind i k.Int t is e = inl refl
-  type_kind i k.Boolean t is e = inr (inl refl)
-  type_kind i k.Name t is e = inr (inr refl)
+  -- a type begins with one of its words, or with a name
+  abbrev BeginsType : ℕ → Type 0
+  BeginsType i = (seen false ts i ≡ k.Int) ⊎ ((seen false ts i ≡ k.Long) ⊎ ((seen false ts i ≡ k.Boolean) ⊎ (seen false ts i ≡ k.Name)))
+
+  type_kind : (i : ℕ) (a : Kind) (t : ElementType) → seen false ts i ≡ a → element_of a (name_at ts i) ≡ Some t → BeginsType i
+  type_kind i k.Int t is e = inl is
+  type_kind i k.Long t is e = inr (inl is)
+  type_kind i k.Boolean t is e = inr (inr (inl is))
+  type_kind i k.Name t is e = inr (inr (inr is))
   type_kind i _ t is e = absurd cc
 
   abbrev DeclaresAt : ℕ → Type 0
@@ -208,19 +213,21 @@ module _ (ts : List TokenOf) (d : ℕ) where
   declares_by : (i : ℕ) (a b c : Kind) → seen false ts i ≡ a → seen false ts (i + 1) ≡ b → seen false ts (i + 2) ≡ c → p.declares a b c ≡ true → DeclaresAt i
   declares_by i a b c x y z e = ap (λ a. p.declares a (seen false ts (i + 1)) (seen false ts (i + 2))) x ∙ (ap (λ b. p.declares a b (seen false ts (i + 2))) y ∙ (ap (λ c. p.declares a b c) z ∙ e))
 
-  locals_kind : {i j : ℕ} {t : TypeName} {ds : List Declarator} → g.Locals ts i t ds j → ((seen false ts i ≡ k.Int) ⊎ ((seen false ts i ≡ k.Boolean) ⊎ (seen false ts i ≡ k.Name))) × DeclaresAt i
+  locals_kind : {i j : ℕ} {t : TypeName} {ds : List Declarator} → g.Locals ts i t ds j → BeginsType i × DeclaresAt i
   locals_kind {i = i} (g.locals (g.single {t = t} e) y) = go (type_kind i (seen false ts i) t refl e)
     where
-      go : (seen false ts i ≡ k.Int) ⊎ ((seen false ts i ≡ k.Boolean) ⊎ (seen false ts i ≡ k.Name)) → ((seen false ts i ≡ k.Int) ⊎ ((seen false ts i ≡ k.Boolean) ⊎ (seen false ts i ≡ k.Name))) × DeclaresAt i
+      go : BeginsType i → BeginsType i × DeclaresAt i
       go (inl x) = (inl x, declares_by i k.Int k.Name (seen false ts (i + 2)) x (first_declared ts d y) refl refl)
-      go (inr (inl x)) = (inr (inl x), declares_by i k.Boolean k.Name (seen false ts (i + 2)) x (first_declared ts d y) refl refl)
-      go (inr (inr x)) = (inr (inr x), declares_by i k.Name k.Name (seen false ts (i + 2)) x (first_declared ts d y) refl refl)
+      go (inr (inl x)) = (inr (inl x), declares_by i k.Long k.Name (seen false ts (i + 2)) x (first_declared ts d y) refl refl)
+      go (inr (inr (inl x))) = (inr (inr (inl x)), declares_by i k.Boolean k.Name (seen false ts (i + 2)) x (first_declared ts d y) refl refl)
+      go (inr (inr (inr x))) = (inr (inr (inr x)), declares_by i k.Name k.Name (seen false ts (i + 2)) x (first_declared ts d y) refl refl)
   locals_kind {i = i} (g.locals (g.array {t = t} e o z) y) = go (type_kind i (seen false ts i) t refl e)
     where
-      go : (seen false ts i ≡ k.Int) ⊎ ((seen false ts i ≡ k.Boolean) ⊎ (seen false ts i ≡ k.Name)) → ((seen false ts i ≡ k.Int) ⊎ ((seen false ts i ≡ k.Boolean) ⊎ (seen false ts i ≡ k.Name))) × DeclaresAt i
+      go : BeginsType i → BeginsType i × DeclaresAt i
       go (inl x) = (inl x, declares_by i k.Int k.OpenBracket k.CloseBracket x o z refl)
-      go (inr (inl x)) = (inr (inl x), declares_by i k.Boolean k.OpenBracket k.CloseBracket x o z refl)
-      go (inr (inr x)) = (inr (inr x), declares_by i k.Name k.OpenBracket k.CloseBracket x o z refl)
+      go (inr (inl x)) = (inr (inl x), declares_by i k.Long k.OpenBracket k.CloseBracket x o z refl)
+      go (inr (inr (inl x))) = (inr (inr (inl x)), declares_by i k.Boolean k.OpenBracket k.CloseBracket x o z refl)
+      go (inr (inr (inr x))) = (inr (inr (inr x)), declares_by i k.Name k.OpenBracket k.CloseBracket x o z refl)
 
   declares_first : (a b c : Kind) → p.declares a b c ≡ true → (a ≡ k.Semicolon → ⊥) × (a ≡ k.Colon → ⊥)
   declares_first a b c e = (λ x. let y : false ≡ true = sym (ap (λ a. p.declares a b c) x) ∙ e in absurd cc, λ x. let y : false ≡ true = sym (ap (λ a. p.declares a b c) x) ∙ e in absurd cc)
@@ -249,6 +256,7 @@ module _ (ts : List TokenOf) (d : ℕ) where
       by : (a : Kind) → seen false ts i ≡ a → starts (seen false ts i) ≡ true → ⊥
       by k.Name is s = named is (declares_name (seen false ts (i + 1)) (seen false ts (i + 2)) (sym (ap (λ a. p.declares a (seen false ts (i + 1)) (seen false ts (i + 2))) is) ∙ b))
       by k.Int is s = let y : false ≡ true = sym (ap starts is) ∙ s in absurd cc
+      by k.Long is s = let y : false ≡ true = sym (ap starts is) ∙ s in absurd cc
       by k.Boolean is s = let y : false ≡ true = sym (ap starts is) ∙ s in absurd cc
       by _ is s = let y : false ≡ true = sym (ap (λ a. p.declares a (seen false ts (i + 1)) (seen false ts (i + 2))) is) ∙ b in absurd cc
 
@@ -280,10 +288,11 @@ module _ (ts : List TokenOf) (d : ℕ) where
           two (inl m) = f (sym q ∙ m)
           two (inr (o, c)) = h (sym q ∙ o)
 
-      go : ((seen false ts i ≡ k.Int) ⊎ ((seen false ts i ≡ k.Boolean) ⊎ (seen false ts i ≡ k.Name))) × DeclaresAt i → p.FormBy ts (suc d) a i l i (s.Locals (span_at ts i) t ds) (j + 1)
+      go : BeginsType i × DeclaresAt i → p.FormBy ts (suc d) a i l i (s.Locals (span_at ts i) t ds) (j + 1)
       go (inl w, b) = put l i _ _ w is made
       go (inr (inl w), b) = put l i _ _ w is made
-      go (inr (inr w), b) = put l i _ _ w is (inr (λ p. name_next b w k.Dot (λ e. cc) (λ e. cc) p.dot, inr (λ c. name_next b w k.Colon (λ e. cc) (λ e. cc) c, inl (b, made))))
+      go (inr (inr (inl w)), b) = put l i _ _ w is made
+      go (inr (inr (inr w)), b) = put l i _ _ w is (inr (λ p. name_next b w k.Dot (λ e. cc) (λ e. cc) p.dot, inr (λ c. name_next b w k.Colon (λ e. cc) (λ e. cc) c, inl (b, made))))
 
   effect_by : (l i : ℕ) {e : Expr} {j : ℕ} (a : Kind) → seen false ts i ≡ a → g.Effect ts i e j → (g.BeginsPrint ts i → ⊥) → seen false ts j ≡ k.Semicolon → d + under e ≤ l → p.FormBy ts (suc d) a i l i (s.Expression (span_at ts i) e) (j + 1)
   effect_by l i {e = e} {j = j} a is x n z le = by a is (sym (ap starts is) ∙ begins ts x.spelled)
@@ -298,6 +307,7 @@ module _ (ts : List TokenOf) (d : ℕ) where
       by k.Semicolon w t = absurd cc
       by k.OpenBrace w t = absurd cc
       by k.Int w t = absurd cc
+      by k.Long w t = absurd cc
       by k.Boolean w t = absurd cc
       by k.Final w t = absurd cc
       by k.If w t = absurd cc
@@ -395,26 +405,27 @@ pub gives_by : (view : Form → Stmt) (ts : List TokenOf) (depth i : ℕ) (a b :
 gives_by view ts depth i a b r e q x = subst (λ a. Gives view ts depth (p.FormBy ts depth a i) i r) (sym q ∙ e) x
 
 pub default_by : (view : Form → Stmt) (ts : List TokenOf) (depth i : ℕ) (a : Kind) (r : Result (Form × ℕ) Fail) → a ≡ seen false ts i
-    → (a ≡ k.Semicolon → ⊥) → (a ≡ k.OpenBrace → ⊥) → (a ≡ k.Int → ⊥) → (a ≡ k.Boolean → ⊥) → (a ≡ k.Final → ⊥) → (a ≡ k.If → ⊥) → (a ≡ k.While → ⊥) → (a ≡ k.Do → ⊥) → (a ≡ k.For → ⊥) → (a ≡ k.Return → ⊥) → (a ≡ k.Break → ⊥) → (a ≡ k.Continue → ⊥) → (a ≡ k.Throw → ⊥) → (a ≡ k.Try → ⊥) → (a ≡ k.Synchronized → ⊥) → (a ≡ k.Name → ⊥) → (a ≡ k.End → ⊥)
+    → (a ≡ k.Semicolon → ⊥) → (a ≡ k.OpenBrace → ⊥) → (a ≡ k.Int → ⊥) → (a ≡ k.Long → ⊥) → (a ≡ k.Boolean → ⊥) → (a ≡ k.Final → ⊥) → (a ≡ k.If → ⊥) → (a ≡ k.While → ⊥) → (a ≡ k.Do → ⊥) → (a ≡ k.For → ⊥) → (a ≡ k.Return → ⊥) → (a ≡ k.Break → ⊥) → (a ≡ k.Continue → ⊥) → (a ≡ k.Throw → ⊥) → (a ≡ k.Try → ⊥) → (a ≡ k.Synchronized → ⊥) → (a ≡ k.Name → ⊥) → (a ≡ k.End → ⊥)
     → Gives view ts depth (p.Evaluations ts depth i) i r → Gives view ts depth (p.FormBy ts depth (seen false ts i) i) i r
-default_by view ts depth i a r e n1 n2 n3 n4 n5 n6 n7 n8 n9 n10 n11 n12 n13 n14 n15 n16 n17 x = subst (λ a. Gives view ts depth (p.FormBy ts depth a i) i r) e (go a n1 n2 n3 n4 n5 n6 n7 n8 n9 n10 n11 n12 n13 n14 n15 n16 n17)
+default_by view ts depth i a r e n1 n2 n3 n4 n5 n6 n7 n8 n9 n10 n11 n12 n13 n14 n15 n16 n17 n18 x = subst (λ a. Gives view ts depth (p.FormBy ts depth a i) i r) e (go a n1 n2 n3 n4 n5 n6 n7 n8 n9 n10 n11 n12 n13 n14 n15 n16 n17 n18)
   where
-    go : (a : Kind) → (a ≡ k.Semicolon → ⊥) → (a ≡ k.OpenBrace → ⊥) → (a ≡ k.Int → ⊥) → (a ≡ k.Boolean → ⊥) → (a ≡ k.Final → ⊥) → (a ≡ k.If → ⊥) → (a ≡ k.While → ⊥) → (a ≡ k.Do → ⊥) → (a ≡ k.For → ⊥) → (a ≡ k.Return → ⊥) → (a ≡ k.Break → ⊥) → (a ≡ k.Continue → ⊥) → (a ≡ k.Throw → ⊥) → (a ≡ k.Try → ⊥) → (a ≡ k.Synchronized → ⊥) → (a ≡ k.Name → ⊥) → (a ≡ k.End → ⊥) → Gives view ts depth (p.FormBy ts depth a i) i r
-    go k.Semicolon n1 n2 n3 n4 n5 n6 n7 n8 n9 n10 n11 n12 n13 n14 n15 n16 n17 = absurd (n1 refl)
-    go k.OpenBrace n1 n2 n3 n4 n5 n6 n7 n8 n9 n10 n11 n12 n13 n14 n15 n16 n17 = absurd (n2 refl)
-    go k.Int n1 n2 n3 n4 n5 n6 n7 n8 n9 n10 n11 n12 n13 n14 n15 n16 n17 = absurd (n3 refl)
-    go k.Boolean n1 n2 n3 n4 n5 n6 n7 n8 n9 n10 n11 n12 n13 n14 n15 n16 n17 = absurd (n4 refl)
-    go k.Final n1 n2 n3 n4 n5 n6 n7 n8 n9 n10 n11 n12 n13 n14 n15 n16 n17 = absurd (n5 refl)
-    go k.If n1 n2 n3 n4 n5 n6 n7 n8 n9 n10 n11 n12 n13 n14 n15 n16 n17 = absurd (n6 refl)
-    go k.While n1 n2 n3 n4 n5 n6 n7 n8 n9 n10 n11 n12 n13 n14 n15 n16 n17 = absurd (n7 refl)
-    go k.Do n1 n2 n3 n4 n5 n6 n7 n8 n9 n10 n11 n12 n13 n14 n15 n16 n17 = absurd (n8 refl)
-    go k.For n1 n2 n3 n4 n5 n6 n7 n8 n9 n10 n11 n12 n13 n14 n15 n16 n17 = absurd (n9 refl)
-    go k.Return n1 n2 n3 n4 n5 n6 n7 n8 n9 n10 n11 n12 n13 n14 n15 n16 n17 = absurd (n10 refl)
-    go k.Break n1 n2 n3 n4 n5 n6 n7 n8 n9 n10 n11 n12 n13 n14 n15 n16 n17 = absurd (n11 refl)
-    go k.Continue n1 n2 n3 n4 n5 n6 n7 n8 n9 n10 n11 n12 n13 n14 n15 n16 n17 = absurd (n12 refl)
-    go k.Throw n1 n2 n3 n4 n5 n6 n7 n8 n9 n10 n11 n12 n13 n14 n15 n16 n17 = absurd (n13 refl)
-    go k.Try n1 n2 n3 n4 n5 n6 n7 n8 n9 n10 n11 n12 n13 n14 n15 n16 n17 = absurd (n14 refl)
-    go k.Synchronized n1 n2 n3 n4 n5 n6 n7 n8 n9 n10 n11 n12 n13 n14 n15 n16 n17 = absurd (n15 refl)
-    go k.Name n1 n2 n3 n4 n5 n6 n7 n8 n9 n10 n11 n12 n13 n14 n15 n16 n17 = absurd (n16 refl)
-    go k.End n1 n2 n3 n4 n5 n6 n7 n8 n9 n10 n11 n12 n13 n14 n15 n16 n17 = absurd (n17 refl)
-    go _ n1 n2 n3 n4 n5 n6 n7 n8 n9 n10 n11 n12 n13 n14 n15 n16 n17 = x
+    go : (a : Kind) → (a ≡ k.Semicolon → ⊥) → (a ≡ k.OpenBrace → ⊥) → (a ≡ k.Int → ⊥) → (a ≡ k.Long → ⊥) → (a ≡ k.Boolean → ⊥) → (a ≡ k.Final → ⊥) → (a ≡ k.If → ⊥) → (a ≡ k.While → ⊥) → (a ≡ k.Do → ⊥) → (a ≡ k.For → ⊥) → (a ≡ k.Return → ⊥) → (a ≡ k.Break → ⊥) → (a ≡ k.Continue → ⊥) → (a ≡ k.Throw → ⊥) → (a ≡ k.Try → ⊥) → (a ≡ k.Synchronized → ⊥) → (a ≡ k.Name → ⊥) → (a ≡ k.End → ⊥) → Gives view ts depth (p.FormBy ts depth a i) i r
+    go k.Semicolon n1 n2 n3 n4 n5 n6 n7 n8 n9 n10 n11 n12 n13 n14 n15 n16 n17 n18 = absurd (n1 refl)
+    go k.OpenBrace n1 n2 n3 n4 n5 n6 n7 n8 n9 n10 n11 n12 n13 n14 n15 n16 n17 n18 = absurd (n2 refl)
+    go k.Int n1 n2 n3 n4 n5 n6 n7 n8 n9 n10 n11 n12 n13 n14 n15 n16 n17 n18 = absurd (n3 refl)
+    go k.Long n1 n2 n3 n4 n5 n6 n7 n8 n9 n10 n11 n12 n13 n14 n15 n16 n17 n18 = absurd (n4 refl)
+    go k.Boolean n1 n2 n3 n4 n5 n6 n7 n8 n9 n10 n11 n12 n13 n14 n15 n16 n17 n18 = absurd (n5 refl)
+    go k.Final n1 n2 n3 n4 n5 n6 n7 n8 n9 n10 n11 n12 n13 n14 n15 n16 n17 n18 = absurd (n6 refl)
+    go k.If n1 n2 n3 n4 n5 n6 n7 n8 n9 n10 n11 n12 n13 n14 n15 n16 n17 n18 = absurd (n7 refl)
+    go k.While n1 n2 n3 n4 n5 n6 n7 n8 n9 n10 n11 n12 n13 n14 n15 n16 n17 n18 = absurd (n8 refl)
+    go k.Do n1 n2 n3 n4 n5 n6 n7 n8 n9 n10 n11 n12 n13 n14 n15 n16 n17 n18 = absurd (n9 refl)
+    go k.For n1 n2 n3 n4 n5 n6 n7 n8 n9 n10 n11 n12 n13 n14 n15 n16 n17 n18 = absurd (n10 refl)
+    go k.Return n1 n2 n3 n4 n5 n6 n7 n8 n9 n10 n11 n12 n13 n14 n15 n16 n17 n18 = absurd (n11 refl)
+    go k.Break n1 n2 n3 n4 n5 n6 n7 n8 n9 n10 n11 n12 n13 n14 n15 n16 n17 n18 = absurd (n12 refl)
+    go k.Continue n1 n2 n3 n4 n5 n6 n7 n8 n9 n10 n11 n12 n13 n14 n15 n16 n17 n18 = absurd (n13 refl)
+    go k.Throw n1 n2 n3 n4 n5 n6 n7 n8 n9 n10 n11 n12 n13 n14 n15 n16 n17 n18 = absurd (n14 refl)
+    go k.Try n1 n2 n3 n4 n5 n6 n7 n8 n9 n10 n11 n12 n13 n14 n15 n16 n17 n18 = absurd (n15 refl)
+    go k.Synchronized n1 n2 n3 n4 n5 n6 n7 n8 n9 n10 n11 n12 n13 n14 n15 n16 n17 n18 = absurd (n16 refl)
+    go k.Name n1 n2 n3 n4 n5 n6 n7 n8 n9 n10 n11 n12 n13 n14 n15 n16 n17 n18 = absurd (n17 refl)
+    go k.End n1 n2 n3 n4 n5 n6 n7 n8 n9 n10 n11 n12 n13 n14 n15 n16 n17 n18 = absurd (n18 refl)
+    go _ n1 n2 n3 n4 n5 n6 n7 n8 n9 n10 n11 n12 n13 n14 n15 n16 n17 n18 = x

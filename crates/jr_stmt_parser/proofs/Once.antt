@@ -133,6 +133,7 @@ module _ (ts : List TokenOf) (l : ℕ) where
       form k.Semicolon h = after once_made
       form k.OpenBrace h = once_then block (λ ss. once_made)
       form k.Int h = once_then locals (λ x. after once_made)
+      form k.Long h = once_then locals (λ x. after once_made)
       form k.Boolean h = once_then locals (λ x. after once_made)
       form k.Final h = after (once_then locals (λ x. after once_made))
       form k.If h = ifs h

@@ -8,7 +8,7 @@ use Rattle.jr_base.specs.declared.refusal.Fail.TheVariants.{Memory, Refused}
 use Rattle.jr_lexer.specs.declared.kind.Kind.{Kind}
 use Rattle.jr_lexer.specs.declared.kind.Kind.TheVariants as k
 use Rattle.jr_lexer.specs.Token.{Token}
-use Rattle.jr_lexer.specs.Reading.{kind_at, text_at, jml_at, number_at, span_at}
+use Rattle.jr_lexer.specs.Reading.{kind_at, text_at, jml_at, value_at, big_at, span_at}
 use Rattle.jr_ast.specs.declared.stmt.Stmt.{Stmt as StmtTree}
 use Rattle.jr_ast.specs.Expressions.{Expr}
 use Rattle.jr_ast.specs.Statements.{Stmts, stmts, view_stmt}
@@ -46,15 +46,15 @@ pub record LeftOutAt (ts : List Token) (i : ℕ) (s : Span) : Type 0 where
   pub span : s ≡ span_at ts at
   pub word : (left_out (jml_at ts at) (kind_at ts at) ≡ true) ⊎ OtherLabel ts at
 
--- A place from i on holds the literal 2147483648, not directly behind a unary `-`: no `-` stands before it,
--- or one that has an operand on its left. The literal and the `-` are of code, or of an annotation.
+-- A place from i on holds the big literal of a type, not directly behind a unary `-`: no `-` stands before
+-- it, or one that has an operand on its left. The literal and the `-` are of code, or of an annotation.
 pub record BigLiteralIn (ts : List Token) (i : ℕ) (s : Span) : Type 0 where
   pub at : ℕ
   pub behind : i ≤ at
   pub span : s ≡ span_at ts at
   pub jml : Bool
   pub literal : seen jml ts at ≡ k.Integer
-  pub number : number_at ts at ≡ 2147483648
+  pub number : value_at ts at ≡ big_at ts at
   pub before : (seen jml ts (at - 1) ≢ k.Minus) ⊎ ((q h : ℕ) × (a : Expr) × Spells jml ts q 14 h a (at - 1))
 
 -- no block stands at a place, however deep it may nest

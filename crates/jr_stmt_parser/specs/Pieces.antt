@@ -24,6 +24,7 @@ use Rattle.jr_stmt_parser.specs.Parts.{Part, Then, Just, Split, When, Many, List
 -- what a statement begins with that declares variables
 abbrev pub declares : Kind → Kind → Kind → Bool
 declares k.Int a b = true
+declares k.Long a b = true
 declares k.Boolean a b = true
 declares k.Name k.Name b = true
 declares k.Name k.OpenBracket k.CloseBracket = true
@@ -204,6 +205,7 @@ module _ (ts : List TokenOf) where
     FormBy k.Semicolon = Empties
     FormBy k.OpenBrace = Blocks
     FormBy k.Int = Declarations
+    FormBy k.Long = Declarations
     FormBy k.Boolean = Declarations
     FormBy k.Final = Finals
     FormBy k.If = Ifs

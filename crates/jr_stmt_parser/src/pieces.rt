@@ -33,6 +33,10 @@ impl<'a> Source<'a> {
             let next = self.expect(at, Kind::Int)?;
             return Ok((ElementType::Int, next));
         }
+        if self.sees(at, Kind::Long) {
+            let next = self.expect(at, Kind::Long)?;
+            return Ok((ElementType::Long, next));
+        }
         if self.sees(at, Kind::Boolean) {
             let next = self.expect(at, Kind::Boolean)?;
             return Ok((ElementType::Boolean, next));
@@ -285,7 +289,7 @@ fn declares(a: Kind, b: Kind, c: Kind) -> bool
     ensures { result ≡ pieces.declares a b c }
 {
     match a {
-        Kind::Int | Kind::Boolean => true,
+        Kind::Int | Kind::Long | Kind::Boolean => true,
         Kind::Name => match b {
             Kind::Name => true,
             Kind::OpenBracket => matches!(c, Kind::CloseBracket),

@@ -254,6 +254,7 @@ impl<'a, F: Fn(Global, &Tokens, u32, u8) -> Result<(Stmt, u32), Fail>> Reader<'a
             Kind::Semicolon => self.source.empty(at),
             Kind::OpenBrace => self.blocks(at),
             Kind::Int => self.source.declaration(at),
+            Kind::Long => self.source.declaration(at),
             Kind::Boolean => self.source.declaration(at),
             Kind::Final => self.source.final_declaration(at),
             Kind::If => self.ifs(at),

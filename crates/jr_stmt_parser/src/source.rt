@@ -117,7 +117,6 @@ fn is_left_out(jml: bool, kind: Kind) -> bool
         | Kind::Char
         | Kind::Byte
         | Kind::Short
-        | Kind::Long
         | Kind::Goto
         | Kind::Const
         | Kind::Arrow => true,

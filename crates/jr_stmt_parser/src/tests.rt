@@ -35,7 +35,7 @@ fn block_told(alloc: Global, text: &[u8]) -> Result<Told, test::Fail> {
     }
 }
 
-static BLOCKS: [(&[u8], Told); 40] = [
+static BLOCKS: [(&[u8], Told); 50] = [
     (b"{}", Told::Block(0, 2)),
     (b"{ ; {} ; } x", Told::Block(3, 6)),
     (b"{ int x = 1, y; }", Told::Block(1, 9)),
@@ -97,6 +97,16 @@ static BLOCKS: [(&[u8], Told); 40] = [
     (b"{ //@ ghost int x;\n }", Told::NotInProfile(6)),
     (b"{ x = 2147483648; }", Told::BigLiteral(6)),
     (b"{ x = -2147483648; }", Told::Block(1, 7)),
+    (b"{ x = 9223372036854775808L; }", Told::BigLiteral(6)),
+    (b"{ x = -9223372036854775808L; }", Told::Block(1, 7)),
+    (b"{ long x = 1L, y; }", Told::Block(1, 9)),
+    (b"{ final long[] x; }", Told::Block(1, 8)),
+    (b"{ if (c) long x = 1; }", Told::Block(1, 11)),
+    (b"{ for (long i = 0; ; ) {} }", Told::Block(1, 13)),
+    (b"{ x = new long[3]; }", Told::Block(1, 10)),
+    (b"{ commit: long x = 1; }", Told::Syntax(10)),
+    (b"{ long; }", Told::Syntax(6)),
+    (b"{ long = 1; }", Told::Syntax(7)),
 ];
 
 #[test]

@@ -5,14 +5,14 @@ use Rattle.jr_base.specs.declared.refusal.Refusal.TheVariants as refusal
 use Rattle.jr_lexer.specs.declared.kind.Kind.{Kind}
 use Rattle.jr_lexer.specs.declared.kind.Kind.TheVariants as k
 use Rattle.jr_lexer.specs.Token.{Token}
-use Rattle.jr_lexer.specs.Reading.{number_at, span_at}
+use Rattle.jr_lexer.specs.Reading.{value_at, big_at, span_at}
 use Rattle.jr_ast.specs.declared.name.TypeName.{TypeName}
 use Rattle.jr_ast.specs.declared.unit.Modifier.{Modifier}
 use Rattle.jr_ast.specs.declared.unit.Constant.{Constant}
 use Rattle.jr_ast.specs.declared.unit.ConstantValue.TheVariants as value
 use Rattle.jr_ast.specs.declared.unit.FieldDeclarator.{FieldDeclarator}
 use Rattle.jr_ast.specs.declared.unit.Field.{Field}
-use Rattle.jr_expr_parser.specs.Seen.{seen, name_at}
+use Rattle.jr_expr_parser.specs.Seen.{seen, name_at, literal_at}
 use Rattle.jr_stmt_parser.specs.Grammar.{TypeOf}
 use Rattle.jr_unit_parser.specs.declared.head.Declared.{Declared}
 use Rattle.jr_unit_parser.specs.declared.head.Declared.TheVariants as declared
@@ -69,18 +69,18 @@ module _ (ts : List Token) where
   integer_told : (i : ℕ) → seen false ts i ≡ k.Integer → seen false ts (i - 1) ≡ k.Equal → Told ts (OneConstant i) (integer ts i)
   unfolding integer same_kind
   integer_told i h before =
-      told_if ts (OneConstant i) (nat_lt (number_at ts i) 2147483648) (Ok (constant_at ts i (value.Integer (number_at ts i)), i + 1)) (cond (nat_eq (number_at ts i) 2147483648) (Err (refusal.BigLiteral (span_at ts i))) (Err (refusal_at ts i)))
-      (λ low. g.integer h (ltb-true (number_at ts i) 2147483648 low))
-      (λ high. told_if ts (OneConstant i) (nat_eq (number_at ts i) 2147483648) (Err (refusal.BigLiteral (span_at ts i))) (Err (refusal_at ts i))
-      (λ e. inl (record { at = i; behind = omega arith; span = refl; jml = false; literal = h; number = eqb-true (number_at ts i) 2147483648 e; before = inl (λ minus. let both : k.Equal ≡ k.Minus = sym before ∙ minus in absurd cc) }))
+      told_if ts (OneConstant i) (nat_lt (value_at ts i) (big_at ts i)) (Ok (constant_at ts i (value.Integer (literal_at ts i)), i + 1)) (cond (nat_eq (value_at ts i) (big_at ts i)) (Err (refusal.BigLiteral (span_at ts i))) (Err (refusal_at ts i)))
+      (λ low. g.integer h (ltb-true (value_at ts i) (big_at ts i) low))
+      (λ high. told_if ts (OneConstant i) (nat_eq (value_at ts i) (big_at ts i)) (Err (refusal.BigLiteral (span_at ts i))) (Err (refusal_at ts i))
+      (λ e. inl (record { at = i; behind = omega arith; span = refl; jml = false; literal = h; number = eqb-true (value_at ts i) (big_at ts i) e; before = inl (λ minus. let both : k.Equal ≡ k.Minus = sym before ∙ minus in absurd cc) }))
       (λ e. caused_at ts i))
 
   negated_told : (i : ℕ) → seen false ts i ≡ k.Minus → Told ts (OneConstant i) (negated ts i)
   unfolding negated
   negated_told i h =
-      told_then ts (λ u. seen false ts (i + 1) ≡ k.Integer) (OneConstant i) (expect ts (i + 1) k.Integer) (λ u. cond (nat_le (number_at ts (i + 1)) 2147483648) (Ok (constant_at ts i (value.Negated (number_at ts (i + 1))), i + 2)) (Err (refusal_at ts (i + 1)))) (told_expect ts (i + 1) k.Integer) (λ u number.
-      told_if ts (OneConstant i) (nat_le (number_at ts (i + 1)) 2147483648) (Ok (constant_at ts i (value.Negated (number_at ts (i + 1))), i + 2)) (Err (refusal_at ts (i + 1)))
-      (λ low. g.negated h number (leb-true (number_at ts (i + 1)) 2147483648 low))
+      told_then ts (λ u. seen false ts (i + 1) ≡ k.Integer) (OneConstant i) (expect ts (i + 1) k.Integer) (λ u. cond (nat_le (value_at ts (i + 1)) (big_at ts (i + 1))) (Ok (constant_at ts i (value.Negated (literal_at ts (i + 1))), i + 2)) (Err (refusal_at ts (i + 1)))) (told_expect ts (i + 1) k.Integer) (λ u number.
+      told_if ts (OneConstant i) (nat_le (value_at ts (i + 1)) (big_at ts (i + 1))) (Ok (constant_at ts i (value.Negated (literal_at ts (i + 1))), i + 2)) (Err (refusal_at ts (i + 1)))
+      (λ low. g.negated h number (leb-true (value_at ts (i + 1)) (big_at ts (i + 1)) low))
       (λ high. caused_at ts (i + 1)))
 
   constant_told : (i : ℕ) → seen false ts (i - 1) ≡ k.Equal → Told ts (OneConstant i) (constant ts i)
@@ -97,8 +97,8 @@ module _ (ts : List Token) where
 
   pub constant_read : (i j : ℕ) (c : Constant) → ConstantAt ts i c j → constant ts i ≡ Ok (c, j)
   unfolding constant integer negated
-  constant_read i j c (g.integer h low) = rw (h, lt-ltb (number_at ts i) 2147483648 low)
-  constant_read i j c (g.negated h number low) = rw (h, expected ts (i + 1) k.Integer number, le-leb (number_at ts (i + 1)) 2147483648 low)
+  constant_read i j c (g.integer h low) = rw (h, lt-ltb (value_at ts i) (big_at ts i) low)
+  constant_read i j c (g.negated h number low) = rw (h, expected ts (i + 1) k.Integer number, le-leb (value_at ts (i + 1)) (big_at ts (i + 1)) low)
   constant_read i j c (g.truth h) = rw h
   constant_read i j c (g.falsity h) = rw h
   constant_read i j c (g.null h) = rw h

@@ -24,6 +24,7 @@ use Rattle.jr_unit_parser.proofs.Told.{Told, told_then, told_to, told_if, told_o
 -- the words that stand behind modifiers, or begin a type
 abbrev pub declares : Kind → Bool
 declares k.Int = true
+declares k.Long = true
 declares k.Boolean = true
 declares k.Name = true
 declares k.Void = true
@@ -33,6 +34,7 @@ declares _ = false
 pub plain : (a : Kind) → declares a ≡ true → (modifier_of false a ≡ None) × (same_kind a k.At ≡ false) × (same_kind a k.End ≡ false)
 unfolding same_kind
 plain k.Int e = (refl, refl, refl)
+plain k.Long e = (refl, refl, refl)
 plain k.Boolean e = (refl, refl, refl)
 plain k.Name e = (refl, refl, refl)
 plain k.Void e = (refl, refl, refl)
@@ -41,6 +43,7 @@ plain _ e = absurd cc
 
 begins_element : (a : Kind) (x : Name) (t : ElementType) → element_of a x ≡ Some t → declares a ≡ true
 begins_element k.Int x t e = refl
+begins_element k.Long x t e = refl
 begins_element k.Boolean x t e = refl
 begins_element k.Name x t e = refl
 begins_element _ x t e = absurd cc

@@ -36,6 +36,7 @@ is_text xs ys e = (bytes_eq-Decides xs ys).1 e
 no_void : (a : Kind) (x : Name) (t : ElementType) → element_of a x ≡ Some t → same_kind a k.Void ≡ false
 unfolding same_kind
 no_void k.Int x t e = refl
+no_void k.Long x t e = refl
 no_void k.Boolean x t e = refl
 no_void k.Name x t e = refl
 no_void _ x t e = absurd cc

@@ -21,7 +21,7 @@ NoUnit ts = (cs : List Class) → SpellsUnit ts cs → ⊥
 abbrev pub NoShallowUnit : List Token → Type 0
 NoShallowUnit ts = (cs : List Class) → SpellsUnit ts cs → ShallowUnit cs → ⊥
 
--- 2147483648 stands in code or in an annotation, not directly behind a unary `-` or the `-` of a constant
+-- the big literal of a type stands in code or in an annotation, not directly behind a unary `-` or the `-` of a constant
 abbrev pub BigLiteralStands : List Token → Span → Type 0
 BigLiteralStands ts s = BigLiteralIn ts 0 s ⊎ BigLiteralAt ts 0 s
 

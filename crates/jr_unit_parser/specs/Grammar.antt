@@ -4,7 +4,7 @@ use Rattle.std.specs.Prelude.{◌≡◌, ◌<◌, ◌≤◌, ℕ, ◌+◌, Bool,
 use Rattle.jr_lexer.specs.declared.kind.Kind.{Kind}
 use Rattle.jr_lexer.specs.declared.kind.Kind.TheVariants as k
 use Rattle.jr_lexer.specs.Token.{Token}
-use Rattle.jr_lexer.specs.Reading.{kind_at, text_at, jml_at, number_at, span_at}
+use Rattle.jr_lexer.specs.Reading.{kind_at, text_at, jml_at, value_at, big_at, span_at}
 use Rattle.jr_ast.specs.declared.name.Name.{Name}
 use Rattle.jr_ast.specs.declared.name.TypeName.{TypeName}
 use Rattle.jr_ast.specs.declared.unit.Modifier.{Modifier}
@@ -20,7 +20,7 @@ use Rattle.jr_ast.specs.declared.unit.MethodKind.TheVariants as kind
 use Rattle.jr_ast.specs.Clauses.{MethodClause, ClassClause}
 use Rattle.jr_ast.specs.Statements.{Stmts}
 use Rattle.jr_ast.specs.Units.{Method, Member, Empty, OfField, OfMethod, OfClause, Class}
-use Rattle.jr_expr_parser.specs.Seen.{seen, name_at}
+use Rattle.jr_expr_parser.specs.Seen.{seen, name_at, literal_at}
 use Rattle.jr_jml_parser.specs.Grammar.{SpellsMethod, SpellsClass}
 use Rattle.jr_stmt_parser.specs.Grammar.{TypeOf, Block}
 use Rattle.jr_unit_parser.specs.declared.head.Signature.{Signature}
@@ -80,6 +80,8 @@ modifier_of true k.Nullable = Some modifier.Nullable
 modifier_of true k.NonNull = Some modifier.NonNull
 modifier_of true k.SpecPublic = Some modifier.SpecPublic
 modifier_of true k.SpecProtected = Some modifier.SpecProtected
+modifier_of true k.SpecSafeMath = Some modifier.SpecSafeMath
+modifier_of true k.SpecJavaMath = Some modifier.SpecJavaMath
 modifier_of _ _ = None
 
 -- the modifier whose first token stands at a place
@@ -93,10 +95,10 @@ pub data ModifierAt (ts : List Token) : ℕ → Modifier → ℕ → Type 0 wher
 
 -- ---- fields (JLS 8.3)
 
--- 2147483648 stands behind a `-` alone
+-- the big literal of a type stands behind a `-` alone
 pub data ConstantAt (ts : List Token) : ℕ → Constant → ℕ → Type 0 where
-  integer : {i : ℕ} → seen false ts i ≡ k.Integer → number_at ts i < 2147483648 → ConstantAt ts i (record { place = span_at ts i; value = constant.Integer (number_at ts i) }) (i + 1)
-  negated : {i : ℕ} → seen false ts i ≡ k.Minus → seen false ts (i + 1) ≡ k.Integer → number_at ts (i + 1) ≤ 2147483648 → ConstantAt ts i (record { place = span_at ts i; value = constant.Negated (number_at ts (i + 1)) }) (i + 2)
+  integer : {i : ℕ} → seen false ts i ≡ k.Integer → value_at ts i < big_at ts i → ConstantAt ts i (record { place = span_at ts i; value = constant.Integer (literal_at ts i) }) (i + 1)
+  negated : {i : ℕ} → seen false ts i ≡ k.Minus → seen false ts (i + 1) ≡ k.Integer → value_at ts (i + 1) ≤ big_at ts (i + 1) → ConstantAt ts i (record { place = span_at ts i; value = constant.Negated (literal_at ts (i + 1)) }) (i + 2)
   truth : {i : ℕ} → seen false ts i ≡ k.True → ConstantAt ts i (record { place = span_at ts i; value = constant.Boolean true }) (i + 1)
   falsity : {i : ℕ} → seen false ts i ≡ k.False → ConstantAt ts i (record { place = span_at ts i; value = constant.Boolean false }) (i + 1)
   null : {i : ℕ} → seen false ts i ≡ k.Null → ConstantAt ts i (record { place = span_at ts i; value = constant.Null }) (i + 1)

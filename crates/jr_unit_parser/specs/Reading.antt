@@ -9,7 +9,7 @@ use Rattle.jr_lexer.specs.contracts.kind.Kind.{the_type}
 use Rattle.jr_lexer.specs.declared.kind.Kind.{Kind}
 use Rattle.jr_lexer.specs.declared.kind.Kind.TheVariants as k
 use Rattle.jr_lexer.specs.Token.{Token}
-use Rattle.jr_lexer.specs.Reading.{kind_at, text_at, jml_at, number_at, span_at}
+use Rattle.jr_lexer.specs.Reading.{kind_at, text_at, jml_at, value_at, big_at, span_at}
 use Rattle.jr_ast.specs.declared.name.ElementType.{ElementType}
 use Rattle.jr_ast.specs.declared.name.TypeName.{TypeName}
 use Rattle.jr_ast.specs.declared.name.TypeName.TheVariants as types
@@ -22,7 +22,7 @@ use Rattle.jr_ast.specs.declared.unit.FieldDeclarator.{FieldDeclarator}
 use Rattle.jr_ast.specs.declared.unit.Formal.{Formal}
 use Rattle.jr_ast.specs.declared.unit.MethodKind.{MethodKind}
 use Rattle.jr_ast.specs.declared.unit.MethodKind.TheVariants as kind
-use Rattle.jr_expr_parser.specs.Seen.{seen, name_at}
+use Rattle.jr_expr_parser.specs.Seen.{seen, name_at, literal_at}
 use Rattle.jr_expr_parser.specs.Operators.{element_of}
 use Rattle.jr_expr_parser.specs.Answers.{left_out}
 use Rattle.jr_unit_parser.specs.declared.head.ClassHead.{ClassHead}
@@ -145,13 +145,13 @@ module _ (ts : List Token) where
 
   unfoldable pub integer : ℕ → Outcome Constant
   integer i =
-      if nat_lt (number_at ts i) 2147483648 then Ok (constant_at i (value.Integer (number_at ts i)), i + 1)
-      else (if number_at ts i == 2147483648 then Err (refusal.BigLiteral (span_at ts i)) else Err (refusal_at i))
+      if nat_lt (value_at ts i) (big_at ts i) then Ok (constant_at i (value.Integer (literal_at ts i)), i + 1)
+      else (if value_at ts i == big_at ts i then Err (refusal.BigLiteral (span_at ts i)) else Err (refusal_at i))
 
   unfoldable pub negated : ℕ → Outcome Constant
   negated i =
       expect (i + 1) k.Integer >>= λ u.
-      if nat_le (number_at ts (i + 1)) 2147483648 then Ok (constant_at i (value.Negated (number_at ts (i + 1))), i + 2) else Err (refusal_at (i + 1))
+      if nat_le (value_at ts (i + 1)) (big_at ts (i + 1)) then Ok (constant_at i (value.Negated (literal_at ts (i + 1))), i + 2) else Err (refusal_at (i + 1))
 
   abbrev pub constant_by : Kind → ℕ → Outcome Constant
   constant_by k.Integer i = integer i

@@ -12,19 +12,20 @@ use jr_lexer::Kind;
 use sqlite_items::Items;
 
 impl<'a> Source<'a> {
-    /// An integer literal without a sign, which is no 2147483648.
+    /// An integer literal without a sign, which is not the big one of its type.
     #[tactic(auto, unfolding(crate::specs::Reading::integer))]
     fn integer(&self, at: u32) -> Result<(Constant, u32), Fail>
         requires { at < 1048576 }
         ensures { Reads (reading.integer self.now.tokens.now at) result }
     {
         let place = self.span(at);
-        let number = self.number(at);
-        if number < 2147483648 {
-            let value = ConstantValue::Integer(number);
+        let literal = self.integer_at(at);
+        let big = self.big(at);
+        if literal.number < big {
+            let value = ConstantValue::Integer(literal);
             return Ok((Constant { place, value }, at + 1));
         }
-        if number == 2147483648 {
+        if literal.number == big {
             return Err(Fail::Refused(Refusal::BigLiteral(place)));
         }
         Err(Fail::Refused(self.refusal(at)))
@@ -37,12 +38,12 @@ impl<'a> Source<'a> {
         ensures { Reads (reading.negated self.now.tokens.now at) result }
     {
         self.expect(at + 1, Kind::Integer)?;
-        let number = self.number(at + 1);
-        if number > 2147483648 {
+        let literal = self.integer_at(at + 1);
+        if literal.number > self.big(at + 1) {
             return Err(Fail::Refused(self.refusal(at + 1)));
         }
         let place = self.span(at);
-        let value = ConstantValue::Negated(number);
+        let value = ConstantValue::Negated(literal);
         Ok((Constant { place, value }, at + 2))
     }
 

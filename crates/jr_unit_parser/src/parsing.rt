@@ -9,8 +9,8 @@ use jr_lexer::Tokens;
 use std::alloc::Global;
 
 /// The classes of a source (JLS 7.3). Packages, imports and `throws` are read, and leave nothing. `TooDeep` is
-/// the refusal of a source that is refused for its nesting alone; `BigLiteral` names a 2147483648 without its
-/// `-`, `NotInProfile` a word of a form that is left out, and `Syntax` the token that doesn't go on.
+/// the refusal of a source that is refused for its nesting alone; `BigLiteral` names the big literal of a type
+/// without its `-`, `NotInProfile` a word of a form that is left out, and `Syntax` the token that doesn't go on.
 pub fn parse(alloc: Global, tokens: &Tokens) -> Result<Unit, Fail>
     ensures { Answers tokens.now result }
 {

@@ -132,6 +132,7 @@ impl<'a> Source<'a> {
     {
         match self.seen(at) {
             Kind::Int => Ok(ElementType::Int),
+            Kind::Long => Ok(ElementType::Long),
             Kind::Boolean => Ok(ElementType::Boolean),
             Kind::Name => Ok(ElementType::Class(self.name(at)?)),
             _ => Err(Fail::Refused(self.refusal(at))),

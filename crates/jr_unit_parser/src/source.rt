@@ -2,15 +2,15 @@
 
 ghost use Rattle.std.specs.Prelude.{◌≡◌, ◌<◌, false, true, IsTrue, IfSome, IfOk};
 ghost use Rattle.jr_lexer.specs.Answers.{Answers as Reads};
-ghost use Rattle.jr_lexer.specs.Reading.{number_at, span_at};
-ghost use Rattle.jr_expr_parser.specs.Seen.{seen, seen_as, name_at};
+ghost use Rattle.jr_lexer.specs.Reading.{big_at, span_at};
+ghost use Rattle.jr_expr_parser.specs.Seen.{seen, seen_as, literal_at, name_at};
 ghost use Rattle.jr_unit_parser.specs.Reading as reading;
 ghost use Rattle.jr_unit_parser.specs.Within.{Within};
 
 use crate::words::left_out;
-use jr_ast::Name;
+use jr_ast::{IntegerLiteral, Name};
 use jr_base::{Fail, Memory, Refusal, Span};
-use jr_lexer::{Kind, Tokens};
+use jr_lexer::{Kind, Tokens, big_literal};
 use std::alloc::Global;
 
 /// The tokens of a source.
@@ -55,10 +55,22 @@ impl<'a> Source<'a> {
         self.tokens.span(at)
     }
 
-    pub fn number(&self, at: u32) -> u32
-        ensures { result ≡ number_at self.now.tokens.now at }
+    /// The integer literal at a place.
+    pub fn integer_at(&self, at: u32) -> IntegerLiteral
+        ensures { result ≡ literal_at self.now.tokens.now at }
     {
-        self.tokens.number(at)
+        let number = self.tokens.number(at);
+        IntegerLiteral {
+            number: number.value,
+            is_long: number.is_long,
+        }
+    }
+
+    /// The big literal of the type of the one at a place.
+    pub fn big(&self, at: u32) -> u64
+        ensures { result ≡ big_at self.now.tokens.now at }
+    {
+        big_literal(self.tokens.number(at).is_long)
     }
 
     /// The name at a place.

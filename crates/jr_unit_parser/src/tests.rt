@@ -1,7 +1,7 @@
 use super::*;
 use jr_ast::{
-    Class, Constant, ConstantValue, ElementType, Field, Formal, Member, Method, MethodKind,
-    Modifier, Name, TypeName,
+    Class, Constant, ConstantValue, ElementType, Field, Formal, IntegerLiteral, Member, Method,
+    MethodKind, Modifier, Name, TypeName,
 };
 use jr_base::{Fail as Refused, Refusal, Span};
 use jr_lexer::lex;
@@ -30,6 +30,7 @@ fn tell_modifiers(out: &mut String, modifiers: &[Modifier]) -> Result<(), test::
 fn tell_element(out: &mut String, element: &ElementType) -> Result<(), test::Fail> {
     match element {
         ElementType::Int => out.push_str("int")?,
+        ElementType::Long => out.push_str("long")?,
         ElementType::Boolean => out.push_str("boolean")?,
         ElementType::Class(name) => tell_name(out, name)?,
     }
@@ -48,13 +49,23 @@ fn tell_type(out: &mut String, type_name: &TypeName) -> Result<(), test::Fail> {
     Ok(())
 }
 
+fn letter(literal: IntegerLiteral) -> &'static str {
+    if literal.is_long { "L" } else { "" }
+}
+
 fn tell_constant(out: &mut String, constant: Constant) -> Result<(), test::Fail> {
     let start = constant.place.start;
     match constant.value {
         ConstantValue::Null => write!(out, "={start}:null")?,
         ConstantValue::Boolean(b) => write!(out, "={start}:{b}")?,
-        ConstantValue::Integer(n) => write!(out, "={start}:{n}")?,
-        ConstantValue::Negated(n) => write!(out, "={start}:-{n}")?,
+        ConstantValue::Integer(literal) => {
+            let number = literal.number;
+            write!(out, "={start}:{number}{}", letter(literal))?;
+        }
+        ConstantValue::Negated(literal) => {
+            let number = literal.number;
+            write!(out, "={start}:-{number}{}", letter(literal))?;
+        }
     }
     Ok(())
 }
@@ -191,7 +202,7 @@ fn check(rt: &impl Abort, alloc: Global, rows: &[(&[u8], &[u8])]) -> Result<(), 
     Ok(())
 }
 
-static CLASSES: [(&[u8], &[u8]); 12] = [
+static CLASSES: [(&[u8], &[u8]); 15] = [
     (b"", b""),
     (b"package a.b; import c.*; import d;", b""),
     (b"class A { }", b"0:class A { }"),
@@ -208,11 +219,20 @@ static CLASSES: [(&[u8], &[u8]); 12] = [
     (b"import a.; class A { }", b"Syntax 9"),
     (b"class A {", b"Syntax 9"),
     (b"class A { } }", b"Syntax 12"),
+    (
+        b"/*@ spec_safe_math @*/ class A { }",
+        b"4:class 4:SpecSafeMath A { }",
+    ),
+    (
+        b"class A { } /*@ spec_java_math spec_safe_math @*/ public class B { }",
+        b"0:class A { }16:class 16:SpecJavaMath 31:SpecSafeMath 50:Public B { }",
+    ),
+    (b"spec_safe_math class A { }", b"Syntax 0"),
     (b"interface A { }", b"NotInProfile 0"),
     (b"class A { native void f(); }", b"NotInProfile 10"),
 ];
 
-static FIELDS: [(&[u8], &[u8]); 8] = [
+static FIELDS: [(&[u8], &[u8]); 14] = [
     (
         b"class A { /*@ spec_public @*/ @Deprecated private static int n = 5, m, k = -2147483648; boolean[] b = null; A a; boolean c = true; }",
         b"0:class A { 14:field 14:SpecPublic 30:Mark 42:Private 50:Static int n=65:5;m;k=75:-2147483648; 88:field boolean[] b=102:null; 108:field A a; 113:field boolean c=125:true; }",
@@ -222,11 +242,29 @@ static FIELDS: [(&[u8], &[u8]); 8] = [
     (b"class A { int x }", b"Syntax 16"),
     (b"class A { int[ x; }", b"Syntax 13"),
     (b"class A { void x; }", b"Syntax 16"),
-    (b"class A { long x; }", b"NotInProfile 10"),
+    (b"class A { float x; }", b"NotInProfile 10"),
+    (
+        b"class A { long x = 1L, y = -9223372036854775808L, z = 2147483648l; static long[] a; }",
+        b"0:class A { 10:field long x=19:1L;y=27:-9223372036854775808L;z=54:2147483648L; 67:field 67:Static long[] a; }",
+    ),
+    (
+        b"class A { long x = 9223372036854775808L; }",
+        b"BigLiteral 19",
+    ),
+    (b"class A { long x = 2147483648; }", b"BigLiteral 19"),
+    (
+        b"class A { spec_safe_math x; }",
+        b"0:class A { 10:field spec_safe_math x; }",
+    ),
+    (
+        b"class A { /*@ spec_safe_math @*/ int x; }",
+        b"0:class A { 14:field 14:SpecSafeMath int x; }",
+    ),
+    (b"class A { long[ x; }", b"Syntax 14"),
     (b"class A { //@ requires true;\n int x; }", b"Syntax 14"),
 ];
 
-static METHODS: [(&[u8], &[u8]); 9] = [
+static METHODS: [(&[u8], &[u8]); 12] = [
     (
         b"class A { A(int n) { } void f() { ; ; } synchronized int[] g(final int a, B[] b) throws E, F { return null; } }",
         b"0:class A { 10:method 0 0 new A(int n;) 23:method 0 2 void f() 40:method 0 1 40:Synchronized int[] g(61:Final int a;B[] b;) }",
@@ -246,6 +284,15 @@ static METHODS: [(&[u8], &[u8]); 9] = [
     (
         b"class A { public //@ invariant true;\n int n; }",
         b"Syntax 21",
+    ),
+    (
+        b"class A { /*@ spec_java_math @*/ A() { } long f(final long a, /*@ spec_safe_math */ long[] b) { long c = 1L; return c; } }",
+        b"0:class A { 14:method 0 0 14:SpecJavaMath new A() 41:method 0 2 long f(48:Final long a;66:SpecSafeMath long[] b;) }",
+    ),
+    (b"class A { spec_java_math void f() { } }", b"Syntax 25"),
+    (
+        b"class A { //@ requires spec_safe_math;\n void f() { } }",
+        b"Syntax 23",
     ),
     (b"class A { void f() { x: ; } }", b"NotInProfile 21"),
 ];

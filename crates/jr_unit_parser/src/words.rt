@@ -30,7 +30,6 @@ pub fn left_out(jml: bool, kind: Kind) -> bool
         | Kind::Char
         | Kind::Byte
         | Kind::Short
-        | Kind::Long
         | Kind::Goto
         | Kind::Const
         | Kind::Arrow => true,
@@ -73,6 +72,8 @@ pub fn modifier_of(jml: bool, kind: Kind) -> Option<ModifierKind>
         Kind::NonNull if jml => Some(ModifierKind::NonNull),
         Kind::SpecPublic if jml => Some(ModifierKind::SpecPublic),
         Kind::SpecProtected if jml => Some(ModifierKind::SpecProtected),
+        Kind::SpecSafeMath if jml => Some(ModifierKind::SpecSafeMath),
+        Kind::SpecJavaMath if jml => Some(ModifierKind::SpecJavaMath),
         _ => None,
     }
 }

@@ -1,7 +1,7 @@
 use Rattle.std.proofs.Common.{◌≡◌, ◌+◌, ◌++◌, map, drop}
 use Rattle.jr_ast.specs.Programs.{program_of}
-use Rattle.jr_journal.specs.World.{cells_of}
-use Rattle.jr_journal.specs.Verdicts.{clause_value, judged_from}
+use Rattle.jr_journal.specs.FirstForm.World.{cells_of}
+use Rattle.jr_journal.specs.FirstForm.Verdicts.{clause_value, judged_from}
 use Rattle.jr_drive.proofs.judge.judge_call.Given as goal
 
 -- the verdicts that were given and those to come are all

@@ -1,4 +1,4 @@
-use Rattle.jr_jml_parser.proofs.Methods.{requires_fits, ensures_fits, when_fits, locks_fits}
+use Rattle.jr_jml_parser.proofs.Methods.{requires_fits, ensures_fits, when_fits, locks_fits, method_refused}
 use Rattle.jr_jml_parser.proofs.clause.method_form.Goals as goal
 
 pub returns-in_ok-condition-in-Requires : goal.returns-in_ok-condition-in-Requires
@@ -12,3 +12,6 @@ returns-in_ok-condition-in-When c = when_fits _ _ _ _ _ c.in-When.ensures.value 
 
 pub returns-in_ok-owned-in-Locks : goal.returns-in_ok-owned-in-Locks
 returns-in_ok-owned-in-Locks c = locks_fits _ _ _ _ _ c.in-Locks.ensures.value c.in_ok-owned-in-Locks.ensures
+
+pub returns-in_default : goal.returns-in_default
+returns-in_default c = method_refused _ _ _ _ _ c.seen.ensures.value c.in_default.not-Requires c.in_default.not-Ensures c.in_default.not-When c.in_default.not-Locks c.in_default.not-Assignable c.in_default.not-Modifies c.refusal.ensures

@@ -1,4 +1,4 @@
-use Rattle.jr_journal.specs.History.{MayCome}
+use Rattle.jr_journal.specs.FirstForm.History.{MayCome}
 use Rattle.jr_journal.proofs.Histories.{Each-prefix}
 use Rattle.jr_journal.proofs.laws.prefixes_are_legal.Goals as goal
 

@@ -1,4 +1,4 @@
-use Rattle.jr_journal.specs.Verdicts.{MayStand}
+use Rattle.jr_journal.specs.FirstForm.Verdicts.{MayStand}
 use Rattle.jr_journal.proofs.Histories.{Each-prefix}
 use Rattle.jr_journal.proofs.laws.prefixes_are_right.Goals as goal
 

@@ -1,4 +1,4 @@
-use Rattle.jr_journal.proofs.Reports.{verdicts-are-values}
+use Rattle.jr_journal.proofs.JudgedValues.{verdicts-are-values}
 use Rattle.jr_journal.proofs.laws.verdicts_are_values.Goals as goal
 
 pub returns : goal.returns

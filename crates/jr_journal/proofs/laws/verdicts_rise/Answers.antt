@@ -1,4 +1,4 @@
-use Rattle.jr_journal.proofs.Reports.{verdicts-rise}
+use Rattle.jr_journal.proofs.JudgedValues.{verdicts-rise}
 use Rattle.jr_journal.proofs.laws.verdicts_rise.Goals as goal
 
 pub returns : goal.returns

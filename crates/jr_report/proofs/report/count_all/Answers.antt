@@ -1,6 +1,6 @@
 use Rattle.std.proofs.Common.{arith}
-use Rattle.jr_journal.specs.History.{steps_in}
-use Rattle.jr_journal.specs.Report.{verdicts_in, violations_in, uncaught_in}
+use Rattle.jr_journal.specs.FirstForm.History.{steps_in}
+use Rattle.jr_report.specs.Report.{verdicts_in, violations_in, uncaught_in}
 use Rattle.jr_report.proofs.Pieces.{sum_by-at}
 use Rattle.jr_report.proofs.report.count_all.Goals as goal
 

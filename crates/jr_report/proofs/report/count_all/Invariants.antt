@@ -1,6 +1,6 @@
 use Rattle.std.proofs.Common.{◌≡◌, ◌≤◌, ◌+◌, drop, sum_by}
-use Rattle.jr_journal.specs.History.{steps_in}
-use Rattle.jr_journal.specs.Report.{verdicts_in, violations_in, uncaught_in}
+use Rattle.jr_journal.specs.FirstForm.History.{steps_in}
+use Rattle.jr_report.specs.Report.{verdicts_in, violations_in, uncaught_in}
 use Rattle.jr_report.proofs.report.count_all.Given as goal
 
 abbrev pub invariant-loop-at : goal.invariant-loop-at

@@ -1,6 +1,6 @@
 use Rattle.std.proofs.Common.{ap, arith, ◌∙◌}
 use Rattle.std.proofs.lemmas.List.{drop_all}
-use Rattle.jr_journal.specs.Report.{out_lines, bytes_of_lines}
+use Rattle.jr_report.specs.Report.{out_lines, bytes_of_lines}
 use Rattle.jr_report.proofs.Pieces.{leads-more, leads-fault, leads-done, out_lines-at}
 use Rattle.jr_report.proofs.report.write_out_lines.Goals as goal
 

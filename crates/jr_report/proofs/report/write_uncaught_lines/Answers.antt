@@ -1,6 +1,6 @@
 use Rattle.std.proofs.Common.{ap, arith, ◌∙◌}
 use Rattle.std.proofs.lemmas.List.{drop_all}
-use Rattle.jr_journal.specs.Report.{uncaught_lines, bytes_of_lines}
+use Rattle.jr_report.specs.Report.{uncaught_lines, bytes_of_lines}
 use Rattle.jr_report.proofs.Pieces.{leads-more, leads-fault, leads-done, uncaught_lines-at}
 use Rattle.jr_report.proofs.report.write_uncaught_lines.Goals as goal
 

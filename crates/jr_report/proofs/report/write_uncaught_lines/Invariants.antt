@@ -1,5 +1,5 @@
 use Rattle.std.proofs.Common.{◌≡◌, ◌≤◌, drop}
-use Rattle.jr_journal.specs.Report.{uncaught_lines, bytes_of_lines}
+use Rattle.jr_report.specs.Report.{uncaught_lines, bytes_of_lines}
 use Rattle.jr_report.proofs.Pieces.{Leads}
 use Rattle.jr_report.proofs.report.write_uncaught_lines.Given as goal
 

@@ -4,7 +4,7 @@ use Rattle.jr_io.specs.Writes.{WritesPiece}
 use Rattle.jr_io.specs.declared.sink.Piece.TheVariants.{Whole, WriteFault}
 use Rattle.jr_ast.specs.Programs.{program_of}
 use Rattle.jr_journal.specs.Event.{event_of}
-use Rattle.jr_journal.specs.Report.{bytes_of_lines, violations_in}
+use Rattle.jr_report.specs.Report.{bytes_of_lines, violations_in}
 use Rattle.jr_report.specs.declared.violations.LastStep.{LastStep}
 use Rattle.jr_report.specs.Passing.{lines_along}
 use Rattle.jr_report.proofs.Passes.{pass-lists}

@@ -1,6 +1,6 @@
 use Rattle.std.proofs.Common.{◌≡◌, ◌+◌, ◌≤◌, drop}
 use Rattle.jr_ast.specs.Programs.{program_of}
-use Rattle.jr_journal.specs.Report.{bytes_of_lines}
+use Rattle.jr_report.specs.Report.{bytes_of_lines}
 use Rattle.jr_report.specs.Passing.{lines_along}
 use Rattle.jr_report.proofs.Pieces.{Leads}
 use Rattle.jr_report.proofs.violations.write_violation_lines.Given as goal

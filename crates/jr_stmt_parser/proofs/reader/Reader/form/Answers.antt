@@ -6,7 +6,7 @@ pub evaluation-requires : goal.evaluation-requires
 evaluation-requires g c = front_of _ _ c.requires.begins
 
 pub returns-in_default : goal.returns-in_default
-returns-in_default g c = default_by _ _ _ _ _ _ c.seen.ensures c.in_default.not-Semicolon c.in_default.not-OpenBrace c.in_default.not-Int c.in_default.not-Boolean c.in_default.not-Final c.in_default.not-If c.in_default.not-While c.in_default.not-Do c.in_default.not-For c.in_default.not-Return c.in_default.not-Break c.in_default.not-Continue c.in_default.not-Throw c.in_default.not-Try c.in_default.not-Synchronized c.in_default.not-Name c.in_default.not-End c.evaluation.ensures
+returns-in_default g c = default_by _ _ _ _ _ _ c.seen.ensures c.in_default.not-Semicolon c.in_default.not-OpenBrace c.in_default.not-Int c.in_default.not-Long c.in_default.not-Boolean c.in_default.not-Final c.in_default.not-If c.in_default.not-While c.in_default.not-Do c.in_default.not-For c.in_default.not-Return c.in_default.not-Break c.in_default.not-Continue c.in_default.not-Throw c.in_default.not-Try c.in_default.not-Synchronized c.in_default.not-Name c.in_default.not-End c.evaluation.ensures
 
 pub returns-in-Semicolon : goal.returns-in-Semicolon
 returns-in-Semicolon g c = gives_by _ _ _ _ _ _ _ c.seen.ensures c.in-Semicolon.is c.empty.ensures
@@ -52,6 +52,9 @@ returns-in-Name g c = gives_by _ _ _ _ _ _ _ c.seen.ensures c.in-Name.is c.names
 
 pub returns-in-Int : goal.returns-in-Int
 returns-in-Int g c = gives_by _ _ _ _ _ _ _ c.seen.ensures c.in-Int.is c.declaration.ensures
+
+pub returns-in-Long : goal.returns-in-Long
+returns-in-Long g c = gives_by _ _ _ _ _ _ _ c.seen.ensures c.in-Long.is c.declaration-in-Long.ensures
 
 pub returns-in-Boolean : goal.returns-in-Boolean
 returns-in-Boolean g c = gives_by _ _ _ _ _ _ _ c.seen.ensures c.in-Boolean.is c.declaration-in-Boolean.ensures
