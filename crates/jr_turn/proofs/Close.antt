@@ -1,17 +1,19 @@
 -- The beginning and the end.
-use Rattle.std.proofs.Common.{◌≡◌, ◌≢◌, ℕ, zero, suc, ◌+◌, ◌≤◌, List, [], ◌∷◌, ◌++◌, length, set, Bool, true, false, true≢false, Option, Some, None, refl, sym, ap, ◌∙◌, subst, arith, length-set}
-use Rattle.std.specs.Prelude.{is_some, IsPermutation}
+use Rattle.std.proofs.Common.{◌≡◌, ◌≢◌, ℕ, zero, suc, ◌+◌, ◌-◌, ◌<◌, ◌≤◌, List, [], ◌∷◌, ◌++◌, length, set, Bool, true, false, true≢false, Option, Some, None, refl, sym, ap, ◌∙◌, subst, arith, length-set}
+use Rattle.std.specs.Prelude.{is_some, All, Any, IsPermutation}
+use Rattle.std.proofs.lemmas.List.Elements.{All-nil}
 use Rattle.std.proofs.lemmas.List.Sorted.{IsPermutation-refl, IsPermutation-sym}
 use mathlib.Core.Option.{some, some-injective, some-ne-none}
 use lib.ListN.{get_elem?}
 use Rattle.atomic_table.specs.Table.{State, opening, Final, Seen}
 use Rattle.atomic_table.proofs.Lists.{set_else}
+use Rattle.jr_turn.specs.declared.view.Past.{Past}
 use Rattle.jr_turn.specs.declared.view.View.{View}
-use Rattle.jr_turn.specs.Views.{as_list, open_tickets, newcomer, holding, steps}
+use Rattle.jr_turn.specs.Views.{as_list, open_tickets, newcomer, holding, steps, StandsIn}
 use Rattle.jr_turn.specs.Points.{total, one_if, spending, tickets, home_of, Rule}
 use Rattle.jr_turn.specs.Tellings.{IsLast}
 use Rattle.jr_turn.proofs.Orders.{unappend_behind, one_order, no_order}
-use Rattle.jr_turn.proofs.Places.{each_one, total_set, tickets_only, none_some}
+use Rattle.jr_turn.proofs.Places.{each_one, at_place, total_set, tickets_only, none_some}
 use Rattle.jr_turn.proofs.Frames.{is_first}
 
 one_if_le : (b : Bool) → one_if b ≤ 1
@@ -52,13 +54,13 @@ module _ {V O E T : Type 0} (opens : V → O) (entries : V → List E) (in_hand 
 
   begins : (x : V) → entries x ≡ [] → open_tickets in_hand waiting x ≡ [] → Rule opens entries in_hand waiting guest (opening (0 ∷ 0 ∷ 0 ∷ []) (Some x ∷ []) (newcomer {T = T} 1 (Some (opens x)) []))
   begins x nothing no_ticket = let v : View O E T = newcomer 1 (Some (opens x)) [] in record {
-    inner = record { opening = opens x; journal = []; drawn = 0; served = 0; count = 0; place = Some x };
+    inner = record { opening = opens x; journal = []; drawn = 0; served = 0; count = 0; place = Some x; past = [] };
     words = refl;
     homes = refl;
     one = record { value = λ y e. let is : x ≡ y = cc (e) in ap opens (sym is); each = each_one _ v (λ _. refl) };
     two = record { value = λ y e. let is : x ≡ y = cc (e) in ap entries (sym is) ∙ nothing; each = each_one _ v (λ out. absurd (true≢false (sym out))); flight = each_one _ v (λ e some. absurd (none_some e some)) };
-    three = record { each = each_one _ v (λ _. (([], refl), omega arith)); counted = refl; short = omega arith };
-    four = record { each = each_one _ v (λ _. record { number = refl; mine = refl }); first = each_one _ v (λ _. record { live = refl; made = refl; joined = refl }); none_above = λ n _. refl };
+    three = record { each = each_one _ v (λ _. (([], refl), omega arith)); past = All-nil _; counted = refl; short = omega arith };
+    four = record { each = each_one _ v (λ _. record { number = refl; mine = refl }); first = each_one _ v (λ _. record { live = refl; made = refl; joined = refl; past = refl }); past = All-nil _; kept = each_one _ v (λ gone. absurd (true≢false (sym gone))); none_above = λ n _. refl };
     five = record {
       range = each_one _ v (λ d e. absurd (none_some d e));
       once = λ a b d p q at_a at_b dp dq. absurd (none_some d (each_one (λ j (u : View O E T). None ≡ u.drawn) v refl a p at_a ∙ dp));
@@ -78,6 +80,17 @@ module _ {V O E T : Type 0} (opens : V → O) (entries : V → List E) (in_hand 
       no_tickets : (xs ys : List T) → xs ++ ys ≡ [] → IsPermutation (xs ++ ys) ys
       no_tickets [] ys e = IsPermutation-refl ys
       no_tickets (x ∷ xs) ys e = absurd (cc (e))
+
+  -- each pass but the first is among those that were joined
+  no_more : (id : ℕ) (v : View O E T) (s : St) (r : Rule opens entries in_hand waiting guest s) → get_elem? s.views id ≡ some v → v.spent ≡ false → v.number ≡ 1 → v.made ≡ v.joined + 1
+      → (n : ℕ) → 1 < n → n ≤ v.made → Any (λ (p : Past E). p.number ≡ n) v.past
+  no_more id v s r at live one left n more made =
+      let f = is_first r.inner guest s.views id v at live one r.four in let m = f.1 in
+      let zero : id ≡ 0 = f.0 in let passes : v.made ≡ length s.views = m.made in
+      let e = at_place s.views (n - 1) (omega arith) in
+      let gone = one_left s.views id v at live (sym m.made ∙ (left ∙ ap (λ n. n + 1) m.joined)) (n - 1) e.0 (λ q. omega arith) e.1 in
+      let number : (n - 1) + 1 ≡ n = omega arith in
+      subst (λ (z : List (Past E) × ℕ). Any (λ (p : Past E). p.number ≡ z.1) z.0) (λ k. (sym m.past k, number k)) (r.four.kept (n - 1) e.0 e.1 gone)
 
   closes_at : (id : ℕ) (v : View O E T) (xs : List (Option V)) (s : St) (r : Rule opens entries in_hand waiting guest s) → get_elem? s.views id ≡ some v
       → ((k : ℕ) (y : Option V) → get_elem? s.homes k ≡ some (some y) → get_elem? xs k ≡ some y) → v.spent ≡ false → v.number ≡ 1 → v.made ≡ v.joined + 1 → v.out ≡ None
@@ -102,6 +115,8 @@ module _ {V O E T : Type 0} (opens : V → O) (entries : V → List E) (in_hand 
           same_opening = r.one.each id v at live ∙ ap Some (sym (r.one.value x place));
           more = (sees.0, tells ∙ sees.1);
           own_steps = o.mine ∙ (λ k. steps guest (sym o.number k) (sym tells k));
+          past = subst (All (StandsIn guest (entries x))) (sym m.past) (λ k d b. record { seen = (let seen = r.three.past k d b in (seen.0, tells ∙ seen.1)); mine = (r.four.past k d b).mine ∙ ap (steps guest _) (sym tells) });
+          none_missing = no_more id v s r at live one left;
           own_ticket = last_tickets v.ticket (in_hand x) (subst (IsPermutation (in_hand x)) only (unappend_behind (in_hand x) (tickets s.views) (waiting x) (r.six.value x place)));
         },
       )

@@ -1,18 +1,19 @@
 -- An entry is counted.
-use Rattle.std.proofs.Common.{◌≡◌, ◌≢◌, ℕ, ◌+◌, ◌%◌, ◌^◌, ◌<◌, List, [], ◌∷◌, ◌++◌, length, get_or, set, cond, true, false, Option, Some, None, refl, sym, ap, ◌∙◌, subst, arith, length-set, length-append, append_assoc, append-nil, ne_eqb}
+use Rattle.std.proofs.Common.{◌≡◌, ◌≢◌, ℕ, ◌+◌, ◌%◌, ◌^◌, ◌<◌, List, [], ◌∷◌, ◌++◌, length, get_or, set, cond, true, false, true≢false, Option, Some, None, refl, sym, ap, ◌∙◌, subst, arith, length-set, length-append, append_assoc, append-nil, ne_eqb}
 use Rattle.std.specs.Option.{ForSome}
 use Rattle.std.proofs.lemmas.List.Elements.{filter-append}
 use Rattle.std.proofs.Math.Nat.{mod-eq_of_lt}
 use Rattle.atomic_table.proofs.Lists.{set_here}
-use mathlib.Core.Option.{none, some}
+use mathlib.Core.Option.{none, some, some-injective}
 use lib.ListN.{get_elem?}
 use Rattle.atomic_table.specs.Table.{Me, step, keeps, Allows}
+use Rattle.jr_turn.specs.declared.view.Past.{Past}
 use Rattle.jr_turn.specs.declared.view.View.{View}
 use Rattle.jr_turn.specs.Views.{with_entry, holding, is_step_of, steps}
-use Rattle.jr_turn.specs.Points.{Inner, total, drawing, spending, One, Two, Three, Four, Five, Rule}
+use Rattle.jr_turn.specs.Points.{Inner, total, drawing, spending, Joined, One, Two, Three, Four, Five, Rule}
 use Rattle.jr_turn.specs.Tellings.{counted}
 use Rattle.jr_turn.proofs.Places.{each_set, some_set, once_same, total_same, none_some, below}
-use Rattle.jr_turn.proofs.Frames.{leads_same, six_same, seven_live, alone}
+use Rattle.jr_turn.proofs.Frames.{leads_same, joined_set, six_same, seven_live, alone}
 
 -- no step of the guest k is one of another guest
 not_by : (n k : ℕ) (o : Option ℕ) → ForSome o (λ m. m ≡ k) → n ≢ k → is_step_of n o ≡ false
@@ -48,9 +49,20 @@ module _ {V O E T : Type 0} (h : Inner V O E) (guest : E → Option ℕ) (views 
     each = each_set _ _ views i w r.each
         (λ live. (([], ap (λ l. l ++ e ∷ []) (sym tells) ∙ sym (append-nil _)), (let k = (r.each i v at live).1 in omega arith)))
         (λ j u _ _ k live. let s = k live in ((s.0.0 ++ e ∷ [], ap (λ l. l ++ e ∷ []) s.0.1 ∙ append_assoc u.seen s.0.0 (e ∷ [])), (let known = s.1 in omega arith)));
+    past = λ k d b. let s = r.past k d b in (s.0 ++ e ∷ [], ap (λ l. l ++ e ∷ []) s.1 ∙ append_assoc _ s.0 (e ∷ []));
     counted = ap (λ n. n + 1) r.counted ∙ sym len;
     short = omega arith;
   }
+
+  -- a joined pass has no step among the entries of another, since its view is spent
+  counted_not : {p : Past E} → v.spent ≡ false → Joined h guest views p → Joined (longer_by h e) guest (set views i w) p
+  counted_not {p} live k =
+      let s = k.spent in
+      let other : p.number ≢ i + 1 = λ same. let j : s.0 ≡ i = (let n = s.3.0 in omega arith) in
+      let view : s.1 ≡ v = some-injective s.1 v (sym s.2 ∙ (ap (get_elem? views) j ∙ at)) in
+      true≢false (sym s.3.1 ∙ (ap (λ (x : View O E T). x.spent) view ∙ live)) in
+      let set = joined_set h guest views i v w p at (λ gone. gone) k in
+      record { spent = set.spent; mine = set.mine ∙ sym (steps_none guest p.number (i + 1) h.journal e names other) }
 
   count_four : v.spent ≡ false → Four h guest views → Four (longer_by h e) guest (set views i w)
   count_four live r =
@@ -61,8 +73,10 @@ module _ {V O E T : Type 0} (h : Inner V O E) (guest : E → Option ℕ) (views 
             (λ _. record { number = o.number; mine = (λ k. o.mine k ++ steps guest (o.number k) (e ∷ [])) ∙ sym (steps-append guest (i + 1) h.journal e) })
             (λ j u apart _ k alive. let d = k alive in record { number = d.number; mine = d.mine ∙ sym (steps_none guest (j + 1) (i + 1) h.journal e names (λ same. apart (omega arith))) });
         first = each_set _ _ views i w r.first
-            (λ zero. leads_same h (longer_by h e) _ _ _ _ v w len gone refl refl refl (r.first i v at zero))
-            (λ j u _ _ k zero. leads_same h (longer_by h e) _ _ _ _ u u len gone refl refl refl (k zero));
+            (λ zero. leads_same h (longer_by h e) _ _ _ _ v w refl len gone refl refl refl refl (r.first i v at zero))
+            (λ j u _ _ k zero. leads_same h (longer_by h e) _ _ _ _ u u refl len gone refl refl refl refl (k zero));
+        past = λ k d b. counted_not live (r.past k d b);
+        kept = each_set _ _ views i w r.kept (r.kept i v at) (λ j u _ _ k. k);
         none_above = λ n more. steps_none guest n (i + 1) h.journal e names (λ same. let b = below views i v at in omega arith) ∙ r.none_above n (subst (λ (m : ℕ). m < n) len more);
       }
 

@@ -29,7 +29,7 @@ module _ {V O E T : Type 0} (h : Inner V O E) (views : List (View O E T)) (i : �
   draw_two entries r = record { value = r.value; each = each_set _ _ views i w r.each (r.each i v at) (λ j u _ _ k. k); flight = each_set _ _ views i w r.flight (r.flight i v at) (λ j u _ _ k. k) }
 
   draw_three : Three h views → Three (drawn_more h) (set views i w)
-  draw_three r = record { each = each_set _ _ views i w r.each (r.each i v at) (λ j u _ _ k. k); counted = r.counted; short = r.short }
+  draw_three r = record { each = each_set _ _ views i w r.each (r.each i v at) (λ j u _ _ k. k); past = r.past; counted = r.counted; short = r.short }
 
   draw_five : v.drawn ≡ None → Five h views → Five (drawn_more h) (set views i w)
   draw_five idle r = let all : h.drawn ≡ h.served + total drawing views = r.all in record {
@@ -64,7 +64,7 @@ module _ {V O E T : Type 0} (opening : V → O) (entries : V → List E) (in_han
       one = draw_one h s.views id v at opening r.one;
       two = draw_two h s.views id v at entries r.two;
       three = draw_three h s.views id v at r.three;
-      four = four_same h (drawn_more h) guest s.views id v w at refl refl refl refl refl refl r.four;
+      four = four_same h (drawn_more h) guest s.views id v w at refl refl refl refl refl refl refl refl r.four;
       five = draw_five h s.views id v at idle r.five;
       six = six_same h (drawn_more h) in_hand waiting s.views id v w at (λ x e. e) refl refl r.six;
       seven = seven_live s.views id w live r.seven;

@@ -45,6 +45,9 @@ a_verdict_is_nobodys = refl
 longer_is_kept : ((with_joined first second).seen ≡ second.seen) × ((with_joined second first).seen ≡ second.seen)
 longer_is_kept = (refl, refl)
 
+the_joined_are_kept : (with_joined first second).past ≡ record { number = 2; seen = second.seen; mine = second.mine } ∷ []
+the_joined_are_kept = refl
+
 the_first_where_as_long : longer {E = ℕ} (1 ∷ []) (2 ∷ []) ≡ 1 ∷ []
 the_first_where_as_long = refl
 

@@ -1,15 +1,16 @@
 -- What a point keeps where a step doesn't touch what it speaks of.
 use Rattle.std.proofs.Common.{◌≡◌, ℕ, ◌+◌, ◌%◌, ◌^◌, ◌<◌, ◌≤◌, List, ◌++◌, length, get_or, set, true, false, true≢false, Option, Some, refl, sym, ap, ◌∙◌, subst, arith, length-set}
-use Rattle.std.specs.Prelude.{IsPermutation}
+use Rattle.std.specs.Prelude.{All, Any, IsPermutation}
 use mathlib.Core.Option.{some}
 use lib.ListN.{get_elem?}
 use lib.Seq.{set-get_or}
 use Rattle.atomic_table.specs.Table.{State, keeps, stepped}
 use Rattle.atomic_table.proofs.Lists.{set_again, one_turn}
+use Rattle.jr_turn.specs.declared.view.Past.{Past}
 use Rattle.jr_turn.specs.declared.view.View.{View}
 use Rattle.jr_turn.specs.Views.{holding, steps, open_tickets}
-use Rattle.jr_turn.specs.Points.{Inner, total, one_if, drawing, spending, tickets, Owns, Leads, Four, Five, Six, Seven, Rule}
-use Rattle.jr_turn.proofs.Places.{each_set, total_same, tickets_same, drawing_le}
+use Rattle.jr_turn.specs.Points.{Inner, total, one_if, drawing, spending, tickets, Owns, Leads, Joined, Four, Five, Six, Seven, Rule}
+use Rattle.jr_turn.proofs.Places.{each_set, some_set, total_same, tickets_same, drawing_le}
 
 -- a number among those drawn whose word is the one served is the one served
 pub is_served : {O E T : Type 0} (views : List (View O E T)) (served drawn d : ℕ) → drawn ≡ served + total drawing views → length views < 2 ^ 32 → served ≤ d → d < drawn → served % 2 ^ 64 ≡ d % 2 ^ 64 → served ≡ d
@@ -22,23 +23,42 @@ module _ {V O E T : Type 0} where
   pub owns_same : (h h' : Inner V O E) (guest : E → Option ℕ) (j : ℕ) (v w : View O E T) → h'.journal ≡ h.journal → w.number ≡ v.number → w.mine ≡ v.mine → Owns h guest j v → Owns h' guest j w
   owns_same h h' guest j v w journal number mine o = record { number = number ∙ o.number; mine = mine ∙ (o.mine ∙ ap (steps guest (j + 1)) (sym journal)) }
 
-  -- the first view, where the lists are as long and as many were joined
-  pub leads_same : (h h' : Inner V O E) (n n' k k' : ℕ) (v w : View O E T) → n' ≡ n → k' ≡ k → w.spent ≡ v.spent → w.made ≡ v.made → w.joined ≡ v.joined → Leads h n k v → Leads h' n' k' w
-  leads_same h h' n n' k k' v w len gone spent made joined l = record { live = spent ∙ l.live; made = made ∙ (l.made ∙ sym len); joined = joined ∙ (l.joined ∙ sym gone) }
+  -- the first view, where the lists are as long and the same ones were joined
+  pub leads_same : (h h' : Inner V O E) (n n' k k' : ℕ) (v w : View O E T) → h'.past ≡ h.past → n' ≡ n → k' ≡ k → w.spent ≡ v.spent → w.made ≡ v.made → w.joined ≡ v.joined → w.past ≡ v.past → Leads h n k v → Leads h' n' k' w
+  leads_same h h' n n' k k' v w kept len gone spent made joined past l = record {
+    live = spent ∙ l.live;
+    made = made ∙ (l.made ∙ sym len);
+    joined = joined ∙ (l.joined ∙ sym gone);
+    past = past ∙ (l.past ∙ sym kept);
+  }
 
-  pub four_same : (h h' : Inner V O E) (guest : E → Option ℕ) (views : List (View O E T)) (i : ℕ) (v w : View O E T) → get_elem? views i ≡ some v → h'.journal ≡ h.journal
-      → w.spent ≡ v.spent → w.number ≡ v.number → w.mine ≡ v.mine → w.made ≡ v.made → w.joined ≡ v.joined → Four h guest views → Four h' guest (set views i w)
-  four_same h h' guest views i v w at journal spent number mine made joined r =
+  -- a joined pass, where a view stays spent or not
+  pub joined_set : (h : Inner V O E) (guest : E → Option ℕ) (views : List (View O E T)) (i : ℕ) (v w : View O E T) (p : Past E) → get_elem? views i ≡ some v → (v.spent ≡ true → w.spent ≡ true) → Joined h guest views p → Joined h guest (set views i w) p
+  joined_set h guest views i v w p at spent k = record {
+    spent = some_set (λ j (x : View O E T). (p.number ≡ j + 1) × (x.spent ≡ true)) views i v w at (λ s. (s.0, spent s.1)) k.spent;
+    mine = k.mine;
+  }
+
+  pub four_same : (h h' : Inner V O E) (guest : E → Option ℕ) (views : List (View O E T)) (i : ℕ) (v w : View O E T) → get_elem? views i ≡ some v → h'.journal ≡ h.journal → h'.past ≡ h.past
+      → w.spent ≡ v.spent → w.number ≡ v.number → w.mine ≡ v.mine → w.made ≡ v.made → w.joined ≡ v.joined → w.past ≡ v.past → Four h guest views → Four h' guest (set views i w)
+  four_same h h' guest views i v w at journal kept spent number mine made joined past r =
       let len : length (set views i w) ≡ length views = length-set views i w in
       let gone : total spending (set views i w) ≡ total spending views = total_same spending views i v w at (ap one_if spent) in record {
         each = each_set _ _ views i w r.each
             (λ live. owns_same h h' guest i v w journal number mine (r.each i v at (sym spent ∙ live)))
             (λ j u _ _ k live. owns_same h h' guest j u u journal refl refl (k live));
         first = each_set _ _ views i w r.first
-            (λ zero. leads_same h h' _ _ _ _ v w len gone spent made joined (r.first i v at zero))
-            (λ j u _ _ k zero. leads_same h h' _ _ _ _ u u len gone refl refl refl (k zero));
+            (λ zero. leads_same h h' _ _ _ _ v w kept len gone spent made joined past (r.first i v at zero))
+            (λ j u _ _ k zero. leads_same h h' _ _ _ _ u u kept len gone refl refl refl refl (k zero));
+        past = subst (All (Joined h' guest (set views i w))) (sym kept) (λ n d b. joined_same (joined_set h guest views i v w _ at (λ gone. spent ∙ gone) (r.past n d b)));
+        kept = each_set _ _ views i w r.kept
+            (λ gone. subst (Any (λ (p : Past E). p.number ≡ i + 1)) (sym kept) (r.kept i v at (sym spent ∙ gone)))
+            (λ j u _ _ k gone. subst (Any (λ (p : Past E). p.number ≡ j + 1)) (sym kept) (k gone));
         none_above = λ n more. ap (steps guest n) journal ∙ r.none_above n (subst (λ (m : ℕ). m < n) len more);
       }
+    where
+      joined_same : {p : Past E} → Joined h guest (set views i w) p → Joined h' guest (set views i w) p
+      joined_same {p} k = record { spent = k.spent; mine = k.mine ∙ ap (steps guest p.number) (sym journal) }
 
   pub six_same : (h h' : Inner V O E) (in_hand waiting : V → List T) (views : List (View O E T)) (i : ℕ) (v w : View O E T) → get_elem? views i ≡ some v → ((x : V) → h'.place ≡ Some x → h.place ≡ Some x)
       → w.ticket ≡ v.ticket → w.out ≡ v.out → Six h in_hand waiting views → Six h' in_hand waiting (set views i w)

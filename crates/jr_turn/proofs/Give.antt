@@ -35,7 +35,7 @@ module _ {V O E T : Type 0} (h : Inner V O E) (views : List (View O E T)) (i : �
   }
 
   give_three : Three h views → Three (given_back h x) (set views i w)
-  give_three r = record { each = each_set _ _ views i w r.each (r.each i v at) (λ j u _ _ k. k); counted = r.counted; short = r.short }
+  give_three r = record { each = each_set _ _ views i w r.each (r.each i v at) (λ j u _ _ k. k); past = r.past; counted = r.counted; short = r.short }
 
   give_five : holding v ≡ true → Five h views → Five (given_back h x) (set views i w)
   give_five hold r = let own = ((r.turn i v at).hold hold).0 in record {
@@ -83,7 +83,7 @@ module _ {V O E T : Type 0} (opening : V → O) (entries : V → List E) (in_han
           one = give_one h s.views id v at x ticket opening live fits.same_opening r.one;
           two = give_two h s.views id v at x ticket entries hold fits.same_list r.two;
           three = give_three h s.views id v at x ticket r.three;
-          four = four_same h (given_back h x) guest s.views id v w at refl refl refl refl refl refl r.four;
+          four = four_same h (given_back h x) guest s.views id v w at refl refl refl refl refl refl refl refl r.four;
           five = give_five h s.views id v at x ticket hold r.five;
           six = give_six h s.views id v at x ticket in_hand waiting out.0 out.1 (fits.tickets out.0 out.1) r.five r.six;
           seven = seven_live s.views id w live r.seven;

@@ -25,7 +25,7 @@ module _ {V O E T : Type 0} (h : Inner V O E) (views : List (View O E T)) (i : �
   look_two entries r = record { value = r.value; each = each_set _ _ views i w r.each (r.each i v at) (λ j u _ _ k. k); flight = each_set _ _ views i w r.flight (r.flight i v at) (λ j u _ _ k. k) }
 
   look_three : Three h views → Three h (set views i w)
-  look_three r = record { each = each_set _ _ views i w r.each (λ live. ((r.each i v at live).0, le_refl h.count)) (λ j u _ _ k. k); counted = r.counted; short = r.short }
+  look_three r = record { each = each_set _ _ views i w r.each (λ live. ((r.each i v at live).0, le_refl h.count)) (λ j u _ _ k. k); past = r.past; counted = r.counted; short = r.short }
 
   look_five : Five h views → Five h (set views i w)
   look_five r = record {
@@ -54,7 +54,7 @@ module _ {V O E T : Type 0} (opening : V → O) (entries : V → List E) (in_han
           one = look_one h s.views id v at opening r.one;
           two = look_two h s.views id v at entries r.two;
           three = look_three h s.views id v at r.three;
-          four = four_same h h guest s.views id v w at refl refl refl refl refl refl r.four;
+          four = four_same h h guest s.views id v w at refl refl refl refl refl refl refl refl r.four;
           five = look_five h s.views id v at r.five;
           six = six_same h h in_hand waiting s.views id v w at (λ x e. e) refl refl r.six;
           seven = seven_live s.views id w live r.seven;

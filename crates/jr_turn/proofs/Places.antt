@@ -21,6 +21,12 @@ below [] i a e = absurd (some-ne-none a (sym e))
 below (x ∷ xs) zero a e = omega arith
 below (x ∷ xs) (suc i) a e = let rest = below xs i a e in omega arith
 
+-- in range there is an element
+pub at_place : {A : Type 0} (l : List A) (i : ℕ) → i < length l → (a : A) × (get_elem? l i ≡ some a)
+at_place [] i e = absurd (omega arith)
+at_place (x ∷ xs) zero e = (x, refl)
+at_place (x ∷ xs) (suc i) e = at_place xs i (omega arith)
+
 pub at_end : {A : Type 0} (l : List A) (a b : A) (j : ℕ) → get_elem? (l ++ a ∷ []) j ≡ some b → (get_elem? l j ≡ some b) ⊎ ((j ≡ length l) × (a ≡ b))
 at_end [] a b zero e = inr (refl, some-injective a b e)
 at_end [] a b (suc j) e = absurd (some-ne-none b (sym e))

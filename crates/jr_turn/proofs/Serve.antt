@@ -26,7 +26,7 @@ module _ {V O E T : Type 0} (h : Inner V O E) (views : List (View O E T)) (i : �
   serve_two entries r = record { value = r.value; each = each_set _ _ views i w r.each (r.each i v at) (λ j u _ _ k. k); flight = each_set _ _ views i w r.flight (r.flight i v at) (λ j u _ _ k. k) }
 
   serve_three : Three h views → Three (served_more h) (set views i w)
-  serve_three r = record { each = each_set _ _ views i w r.each (r.each i v at) (λ j u _ _ k. k); counted = r.counted; short = r.short }
+  serve_three r = record { each = each_set _ _ views i w r.each (r.each i v at) (λ j u _ _ k. k); past = r.past; counted = r.counted; short = r.short }
 
   serve_five : v.given ≡ true → Five h views → Five (served_more h) (set views i w)
   serve_five mark r = let t = r.turn i v at in let own = (t.given mark).0 in let off = (t.given mark).1 in record {
@@ -64,7 +64,7 @@ module _ {V O E T : Type 0} (opening : V → O) (entries : V → List E) (in_han
       one = serve_one h s.views id v at opening r.one;
       two = serve_two h s.views id v at entries r.two;
       three = serve_three h s.views id v at r.three;
-      four = four_same h (served_more h) guest s.views id v w at refl refl refl refl refl refl r.four;
+      four = four_same h (served_more h) guest s.views id v w at refl refl refl refl refl refl refl refl r.four;
       five = serve_five h s.views id v at mark r.five;
       six = six_same h (served_more h) in_hand waiting s.views id v w at (λ x e. e) refl refl r.six;
       seven = seven_live s.views id w live r.seven;

@@ -9,7 +9,7 @@ use Rattle.jr_turn.specs.declared.view.View.{View}
 use Rattle.jr_turn.specs.Views.{with_made, split_off, open_tickets, holding}
 use Rattle.jr_turn.specs.Points.{Inner, total, drawing, spending, tickets, One, Two, Three, Four, Five, Six, Seven, Rule}
 use Rattle.jr_turn.proofs.Places.{each_grow, some_set, some_longer, total_append, total_same, tickets_append, tickets_same, once_same, Once, none_some, below}
-use Rattle.jr_turn.proofs.Frames.{is_first}
+use Rattle.jr_turn.proofs.Frames.{is_first, joined_set}
 
 module _ {V O E T : Type 0} (h : Inner V O E) (views : List (View O E T)) (i : ℕ) (v : View O E T) (at : get_elem? views i ≡ some v) where
   abbrev w : View O E T
@@ -41,7 +41,7 @@ module _ {V O E T : Type 0} (h : Inner V O E) (views : List (View O E T)) (i : �
   }
 
   split_three : v.spent ≡ false → Three h views → Three h views'
-  split_three live r = record { each = each_grow _ _ views i w u r.each (r.each i v at) (λ _. ((r.each i v at live).0, omega arith)) (λ j x _ _ k. k); counted = r.counted; short = r.short }
+  split_three live r = record { each = each_grow _ _ views i w u r.each (r.each i v at) (λ _. ((r.each i v at live).0, omega arith)) (λ j x _ _ k. k); past = r.past; counted = r.counted; short = r.short }
 
   split_four : (guest : E → Option ℕ) → v.spent ≡ false → v.number ≡ 1 → Four h guest views → Four h guest views'
   split_four guest live one r =
@@ -53,9 +53,11 @@ module _ {V O E T : Type 0} (h : Inner V O E) (views : List (View O E T)) (i : �
             (λ _. record { number = ap (λ n. n + 1) made; mine = sym (r.none_above (length views + 1) (omega arith)) })
             (λ j x _ _ k. k);
         first = each_grow _ _ views i w u r.first
-            (λ _. record { live = live; made = ap (λ n. n + 1) made ∙ sym len; joined = f.1.joined ∙ sym gone })
+            (λ _. record { live = live; made = ap (λ n. n + 1) made ∙ sym len; joined = f.1.joined ∙ sym gone; past = f.1.past })
             (λ none. absurd (let b = below views i v at in omega arith))
             (λ j x apart _ k first. absurd (apart (first ∙ sym zero)));
+        past = λ k d b. let j = joined_set h guest views i v w _ at (λ gone. gone) (r.past k d b) in record { spent = some_longer _ (set views i w) u j.spent; mine = j.mine };
+        kept = each_grow _ _ views i w u r.kept (r.kept i v at) (λ gone. absurd (true≢false (sym gone))) (λ j x _ _ k. k);
         none_above = λ n more. r.none_above n (let l = len in omega arith);
       }
 

@@ -36,7 +36,7 @@ module _ {V O E T : Type 0} (h : Inner V O E) (views : List (View O E T)) (i : �
   }
 
   take_three : es ≡ h.journal → Three h views → Three (taken_out h) (set views i w)
-  take_three same r = record { each = each_set _ _ views i w r.each (λ live. (([], sym same ∙ sym (append-nil es)), (r.each i v at live).1)) (λ j u _ _ k. k); counted = r.counted; short = r.short }
+  take_three same r = record { each = each_set _ _ views i w r.each (λ live. (([], sym same ∙ sym (append-nil es)), (r.each i v at live).1)) (λ j u _ _ k. k); past = r.past; counted = r.counted; short = r.short }
 
   take_five : v.drawn ≡ Some h.served → v.given ≡ false → Five h views → Five (taken_out h) (set views i w)
   take_five own calm r = record {
@@ -99,7 +99,7 @@ module _ {V O E T : Type 0} (opening : V → O) (entries : V → List E) (in_han
           one = take_one h s.views id v at x place (entries x) (face x) (in_hand x) opening r.one;
           two = take_two h s.views id v at x place (entries x) (face x) (in_hand x) entries tells idle r.five r.two;
           three = take_three h s.views id v at x place (entries x) (face x) (in_hand x) tells r.three;
-          four = four_same h (taken_out h) guest s.views id v w at refl refl refl refl refl refl r.four;
+          four = four_same h (taken_out h) guest s.views id v w at refl refl refl refl refl refl refl refl r.four;
           five = take_five h s.views id v at x place (entries x) (face x) (in_hand x) (own ∙ ap Some (sym served)) calm r.five;
           six = take_six h s.views id v at x place (entries x) (face x) (in_hand x) in_hand waiting out r.six;
           seven = seven_live s.views id w live r.seven;

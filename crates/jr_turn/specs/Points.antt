@@ -1,8 +1,9 @@
 -- The rule of a turn, in seven points. Each step keeps it, whatever the other passes do.
-use Rattle.std.specs.Prelude.{◌≡◌, ℕ, ◌+◌, ◌%◌, ◌^◌, ◌<◌, ◌≤◌, List, [], ◌∷◌, ◌++◌, length, Bool, true, false, Option, Some, None, is_some, IsPermutation}
+use Rattle.std.specs.Prelude.{◌≡◌, ℕ, ◌+◌, ◌%◌, ◌^◌, ◌<◌, ◌≤◌, List, [], ◌∷◌, ◌++◌, length, Bool, true, false, Option, Some, None, is_some, All, Any, IsPermutation}
 use mathlib.Core.Option.{none, some}
 use lib.ListN.{get_elem?}
 use Rattle.atomic_table.specs.Table.{State}
+use Rattle.jr_turn.specs.declared.view.Past.{Past}
 use Rattle.jr_turn.specs.declared.view.View.{View}
 use Rattle.jr_turn.specs.Views.{IsPrefix, steps, as_list, open_tickets, holding}
 
@@ -16,6 +17,8 @@ pub record Inner (V O E : Type 0) : Type 0 where
   pub count : ℕ
   -- the value, unless a pass has it
   pub place : Option V
+  -- the passes that were joined into the first
+  pub past : List (Past E)
 
 -- the words ticket, serving and count
 abbrev pub words_of : ℕ → ℕ → ℕ → List ℕ
@@ -79,18 +82,20 @@ module _ {V O E T : Type 0} (h : Inner V O E) where
     pub each : Each (λ j (v : View O E T). Tells v) views
     pub flight : Each (λ j (v : View O E T). Counted v) views
 
-  -- 3. What a pass has seen begins the journal, and what it knows is at most the count, which is
-  -- the journal's length
+  -- 3. What a pass has seen begins the journal, and what a joined pass had seen does too. What a pass knows
+  -- is at most the count, which is the journal's length
   abbrev pub Sees : View O E T → Type 0
   Sees v = v.spent ≡ false → IsPrefix v.seen h.journal × (v.known ≤ h.count)
 
   pub record Three (views : List (View O E T)) : Type 0 where
     pub each : Each (λ j (v : View O E T). Sees v) views
+    pub past : All (λ p. IsPrefix p.seen h.journal) h.past
     pub counted : h.count ≡ length h.journal
     pub short : length h.journal < 2 ^ 63
 
   -- 4. A pass has its own number, which is its place, and the steps of its number. The first pass
-  -- stays, and keeps how many passes were made and joined. No higher number has a step
+  -- stays, and keeps how many passes were made, and how many and which ones were joined. Each joined pass is
+  -- kept with its number and the steps of its number. No higher number than that of passes made has a step
   pub record Owns (guest : E → Option ℕ) (j : ℕ) (v : View O E T) : Type 0 where
     pub number : v.number ≡ j + 1
     pub mine : v.mine ≡ steps guest (j + 1) h.journal
@@ -99,10 +104,20 @@ module _ {V O E T : Type 0} (h : Inner V O E) where
     pub live : v.spent ≡ false
     pub made : v.made ≡ passes
     pub joined : v.joined ≡ gone
+    pub past : v.past ≡ h.past
+
+  pub record Joined (guest : E → Option ℕ) (views : List (View O E T)) (p : Past E) : Type 0 where
+    pub spent : SomeOf (λ j (v : View O E T). (p.number ≡ j + 1) × (v.spent ≡ true)) views
+    pub mine : p.mine ≡ steps guest p.number h.journal
+
+  abbrev pub IsKept : ℕ → View O E T → Type 0
+  IsKept j v = v.spent ≡ true → Any (λ p. p.number ≡ j + 1) h.past
 
   pub record Four (guest : E → Option ℕ) (views : List (View O E T)) : Type 0 where
     pub each : Each (λ j (v : View O E T). v.spent ≡ false → Owns guest j v) views
     pub first : Each (λ j (v : View O E T). j ≡ 0 → Leads (length views) (total spending views) v) views
+    pub past : All (Joined guest views) h.past
+    pub kept : Each (λ j (v : View O E T). IsKept j v) views
     pub none_above : (n : ℕ) → length views < n → steps guest n h.journal ≡ []
 
   -- 5. The numbers drawn are those from serving up to ticket, each in one view. The slot is empty

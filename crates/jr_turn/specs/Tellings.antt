@@ -1,10 +1,10 @@
 -- What each atomic step tells the pass that makes it, of its view before and after.
-use Rattle.std.specs.Prelude.{◌≡◌, ℕ, ◌%◌, ◌^◌, ◌≤◌, ◌==◌, List, [], ◌∷◌, length, Option, Some, MatchBool, Contains}
+use Rattle.std.specs.Prelude.{◌≡◌, ℕ, ◌%◌, ◌^◌, ◌≤◌, ◌<◌, ◌==◌, List, [], ◌∷◌, length, Option, Some, MatchBool, Contains, All, Any}
 use Rattle.std.specs.Option.{ForSome}
 use Rattle.atomic_table.specs.Table.{Me, Step}
 use Rattle.jr_turn.specs.declared.annal.Face.{Face}
 use Rattle.jr_turn.specs.declared.view.View.{View}
-use Rattle.jr_turn.specs.Views.{IsPrefix, IsReplaced, as_list, steps, with_drawn, with_taken, with_entry, with_given, with_served, with_known}
+use Rattle.jr_turn.specs.Views.{IsPrefix, IsReplaced, as_list, steps, with_drawn, with_taken, with_entry, with_given, with_served, with_known, StandsIn}
 
 -- Of the value x that a pass with the view v takes
 pub record IsFound {V O E T : Type 0} (opening : V → O) (entries : V → List E) (in_hand : V → List T) (guest : E → Option ℕ) (v : View O E T) (x : V) : Type 0 where
@@ -24,6 +24,8 @@ pub record IsLast {V O E T : Type 0} (opening : V → O) (entries : V → List E
   pub same_opening : v.opening ≡ Some (opening x)
   pub more : IsPrefix v.seen (entries x)
   pub own_steps : v.mine ≡ steps guest v.number (entries x)
+  pub past : All (StandsIn guest (entries x)) v.past
+  pub none_missing : (n : ℕ) → 1 < n → n ≤ v.made → Any (λ p. p.number ≡ n) v.past
   pub own_ticket : in_hand x ≡ as_list v.ticket
 
 -- a number was drawn, of which the word is n

@@ -1,6 +1,7 @@
 -- What a pass knows, its view, and the view after each step.
 use Rattle.std.specs.Prelude.{◌≡◌, ℕ, ◌+◌, ◌==◌, List, [], ◌∷◌, ◌++◌, length, Bool, true, false, Option, Some, None, is_some, if◌then◌else◌, nat_le, filter, unwrap_or, IsPermutation}
 use Rattle.jr_turn.specs.declared.annal.Face.{Face}
+use Rattle.jr_turn.specs.declared.view.Past.{Past}
 use Rattle.jr_turn.specs.declared.view.View.{View}
 
 -- xs is the beginning of ys
@@ -29,6 +30,12 @@ longer xs ys = if nat_le (length ys) (length xs) then xs else ys
 abbrev pub open_tickets : {V T : Type 0} → (V → List T) → (V → List T) → V → List T
 open_tickets in_hand waiting x = in_hand x ++ waiting x
 
+-- Of a joined pass: these entries begin with what it had seen, and its steps are those of its number
+-- among them, in their order
+pub record StandsIn {E : Type 0} (guest : E → Option ℕ) (entries : List E) (p : Past E) : Type 0 where
+  pub seen : IsPrefix p.seen entries
+  pub mine : p.mine ≡ steps guest p.number entries
+
 -- after has the tickets of before, but `own` replaced by `now`
 abbrev pub IsReplaced : {T : Type 0} → Option T → Option T → List T → List T → Type 0
 IsReplaced own now before after = IsPermutation (as_list own ++ after) (as_list now ++ before)
@@ -40,6 +47,7 @@ module _ {O E T : Type 0} where
     number = n;
     made = 1;
     joined = 0;
+    past = [];
     opening = opening;
     seen = seen;
     known = 0;
@@ -61,6 +69,7 @@ module _ {O E T : Type 0} where
     number = 0;
     made = 0;
     joined = 0;
+    past = [];
     opening = None;
     seen = [];
     known = 0;
@@ -108,9 +117,13 @@ module _ {O E T : Type 0} where
   abbrev pub split_off : View O E T → View O E T
   split_off v = newcomer (v.made + 1) v.opening v.seen
 
+  -- what is kept of a pass that was joined
+  abbrev pub past_of : View O E T → Past E
+  past_of u = record { number = u.number; seen = u.seen; mine = u.mine }
+
   -- the first pass, into which u was joined
   abbrev pub with_joined : View O E T → View O E T → View O E T
-  with_joined v u = record v { joined = v.joined + 1; seen = longer v.seen u.seen }
+  with_joined v u = record v { joined = v.joined + 1; past = v.past ++ past_of u ∷ []; seen = longer v.seen u.seen }
 
   -- it loaded the count
   abbrev pub with_known : View O E T → ℕ → View O E T

@@ -17,4 +17,4 @@ pub mod view;
 pub use annal::{Annal, Face};
 pub use pass::Pass;
 pub use turn::Turn;
-pub use view::View;
+pub use view::{Past, View};

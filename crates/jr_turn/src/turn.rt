@@ -1,7 +1,7 @@
 //! A lock with an order, round a value whose list only grows.
-ghost use Rattle.std.specs.Prelude.{◌≡◌, ◌+◌, ◌<◌, ◌≤◌, ◌^◌, ℕ, [], ◌∷◌, ◌++◌, length, Some, None, IfOk, IsSome, Contains};
+ghost use Rattle.std.specs.Prelude.{◌≡◌, ◌+◌, ◌<◌, ◌≤◌, ◌^◌, ℕ, [], ◌∷◌, ◌++◌, length, Some, None, IfOk, IsSome, Contains, All, Any};
 ghost use Rattle.std.specs.Option.{ForSome};
-ghost use Rattle.jr_turn.specs.Views.{IsPrefix, IsReplaced, as_list, steps, open_tickets, out_tickets, with_taken, with_entry, with_back, with_known, with_made, with_joined, split_off, newcomer};
+ghost use Rattle.jr_turn.specs.Views.{IsPrefix, IsReplaced, as_list, steps, open_tickets, out_tickets, with_taken, with_entry, with_back, with_known, with_made, with_joined, split_off, newcomer, StandsIn};
 ghost use Rattle.jr_turn.specs.Passes.{kept_ticket};
 
 use crate::annal::Annal;
@@ -106,7 +106,7 @@ impl<V: Annal> Turn<V> {
         self.lock.give_as::<Brand>(&mut pass.seat, value, ticket);
     }
 
-    /// Takes a pass back, and what it has seen.
+    /// Takes a pass back, and keeps what it has seen and done.
     pub fn join(&self, into: &mut Pass<V>, from: Pass<V>)
         requires turn { (into.old.turn ≡ self.now.turn) × (from.turn ≡ self.now.turn) }
         requires first { into.old.view.number ≡ 1 }
@@ -138,6 +138,10 @@ impl<V: Annal> Turn<V> {
         ensures opening { pass.view.opening ≡ Some (V.opening result) }
         ensures seen { IsPrefix pass.view.seen (V.entries result) }
         ensures mine { pass.view.mine ≡ steps V.guest pass.view.number (V.entries result) }
+        // The list begins with what each joined pass had seen, and has just its steps, in order.
+        ensures past { All (StandsIn V.guest (V.entries result)) pass.view.past }
+        // They are all the passes that were made but the first.
+        ensures none_missing { (n : ℕ) → 1 < n → n ≤ pass.view.made → Any (λ p. p.number ≡ n) pass.view.past }
         ensures tickets { V.in_hand result ≡ as_list pass.view.ticket }
     {
         let Turn { lock, seats: _ } = self;

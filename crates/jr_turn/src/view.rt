@@ -3,12 +3,21 @@ use crate::annal::{Annal, Face};
 use atomic_table::Seat;
 use std::collections::LinkedList;
 
-/// The parts of a view. `number` 1 is the first pass, which alone keeps `made` and `joined`.
+/// What is kept of a pass that was joined: its number, what it had seen, and the steps of its number.
+pub struct Past<E> {
+    pub number: u32,
+    pub seen: LinkedList<E>,
+    pub mine: LinkedList<E>,
+}
+
+/// The parts of a view. `number` 1 is the first pass, which alone keeps `made`, `joined` and `past`.
 pub struct View<O, E, T> {
     pub number: u32,
     /// How many passes were made, the first included, and how many were joined into it.
     pub made: u32,
     pub joined: u32,
+    /// The passes that were joined, in the order in which they were.
+    pub past: LinkedList<Past<E>>,
     pub opening: Option<O>,
     /// The list of the value when the pass last took the turn, and what it counted since.
     pub seen: LinkedList<E>,
