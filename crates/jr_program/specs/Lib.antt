@@ -1,0 +1,10 @@
+pub mod ClauseKinds
+pub mod ClauseViews
+pub mod Clauses
+pub mod ExprViews
+pub mod Programs
+pub mod Sites
+pub mod Slots
+pub mod StatementViews
+pub mod UnitViews
+pub mod WellFormed
