@@ -1,0 +1,38 @@
+-- The run of SpuriousWake by the serial rule with seed 0.
+use Rattle.std.specs.Prelude.{◌≡◌, pos, List, [], ◌∷◌, Some, None}
+use Rattle.jr_base.specs.Deed.{Deed}
+use Rattle.jr_base.specs.Deed as deeds
+use Rattle.jr_base.specs.declared.action.NewKind.TheVariants as makes
+use Rattle.jr_base.specs.declared.action.Reply.TheVariants as replies
+use Rattle.jr_base.specs.declared.action.Way.TheVariants as ways
+use Rattle.jr_base.specs.declared.value.Value.TheVariants as values
+use Rattle.jr_base.specs.declared.finish.Finish.{Finish}
+use Rattle.jr_base.specs.declared.finish.Finish.TheVariants as finishes
+use Rattle.jr_meaning.specs.Event.{Event}
+use Rattle.jr_meaning.specs.Right.{IsRightRun}
+use Rattle.jr_meaning.specs.Serial.{serial}
+use Rattle.jr_meaning.proofs.SerialRuns.{serial-right}
+use Rattle.jr_meaning.proofs.Runs.SpuriousWake.{program}
+use Rattle.jr_meaning.proofs.Runs.{made}
+use Rattle.std.proofs.Common.{refl, subst}
+use Rattle.std.specs.Int.{int_wrap}
+
+abbrev pub journal : List Event
+journal =
+    made 1 (deeds.Call (record { 0 = 1 }) None []) replies.Unit
+    ∷ made 1 (deeds.New (makes.Object (record { 0 = 0 }))) (replies.Made (record { 0 = 2 }))
+    ∷ made 1 (deeds.Enter (record { 0 = 2 }) ways.Method) replies.Unit
+    ∷ made 1 (deeds.Call (record { 0 = 0 }) (Some (record { 0 = 2 })) []) replies.Unit
+    ∷ made 1 (deeds.Get (record { obj = (record { 0 = 2 }); slot = 0 })) (replies.Value (values.Int (pos 0)))
+    ∷ made 1 (deeds.Wait (record { 0 = 2 })) replies.Unit
+    ∷ []
+
+abbrev pub finish : Finish
+finish = finishes.Deadlock
+
+pub is_serial : serial program 200000 0 0 ≡ record { history = journal; finish = finish }
+unfolding int_wrap
+is_serial = refl
+
+pub is_right : IsRightRun program 200000 (record { history = journal; finish = finish })
+is_right = subst (IsRightRun program 200000) is_serial (serial-right program 200000 0 0)
