@@ -21,12 +21,12 @@ java_words =
 abbrev pub jml_words : List (List ℕ)
 jml_words =
     codes "pure" ∷ codes "helper" ∷ codes "atomic" ∷ codes "nullable" ∷ codes "non_null"
-    ∷ codes "spec_public" ∷ codes "spec_protected" ∷ codes "requires" ∷ codes "ensures"
-    ∷ codes "when" ∷ codes "locks" ∷ codes "assignable" ∷ codes "modifies" ∷ codes "invariant"
-    ∷ codes "constraint" ∷ codes "monitors_for" ∷ codes "signals" ∷ codes "also" ∷ codes "model"
-    ∷ codes "ghost" ∷ codes "set" ∷ codes "assume" ∷ codes "normal_behavior"
-    ∷ codes "exceptional_behavior" ∷ codes "loop_invariant" ∷ codes "maintaining"
-    ∷ codes "decreases" ∷ codes "represents" ∷ []
+    ∷ codes "spec_public" ∷ codes "spec_protected" ∷ codes "spec_safe_math"
+    ∷ codes "spec_java_math" ∷ codes "requires" ∷ codes "ensures" ∷ codes "when" ∷ codes "locks"
+    ∷ codes "assignable" ∷ codes "modifies" ∷ codes "invariant" ∷ codes "constraint"
+    ∷ codes "monitors_for" ∷ codes "signals" ∷ codes "also" ∷ codes "model" ∷ codes "ghost"
+    ∷ codes "set" ∷ codes "assume" ∷ codes "normal_behavior" ∷ codes "exceptional_behavior"
+    ∷ codes "loop_invariant" ∷ codes "maintaining" ∷ codes "decreases" ∷ codes "represents" ∷ []
 
 -- in annotations, where jml is true, both lists are keywords, elsewhere those of Java alone
 unfoldable pub keywords : Bool → List (List ℕ)

@@ -14,7 +14,7 @@ const JAVA_COUNT: usize = 53;
 
 /// The keywords of Java (JLS 3.9) but `_`, with its literals `true`, `false` and `null`. Behind them the
 /// words that are keywords in annotations alone (JML Reference Manual).
-pub static KEYWORDS: OpTable<81> = OpTable {
+pub static KEYWORDS: OpTable<83> = OpTable {
     words: [
         b"package",
         b"import",
@@ -76,6 +76,8 @@ pub static KEYWORDS: OpTable<81> = OpTable {
         b"non_null",
         b"spec_public",
         b"spec_protected",
+        b"spec_safe_math",
+        b"spec_java_math",
         b"requires",
         b"ensures",
         b"when",
