@@ -1,0 +1,78 @@
+//! Laws of the definitions, each a function with no work to do: its contract is the law.
+
+ghost use Rattle.std.specs.Prelude.{◌≡◌, ◌≢◌, ◌+◌, ℕ, Some, slice_get, List, ◌++◌, ◌∷◌, [], Option};
+ghost use Rattle.jr_base.specs.Deed.{Deed};
+ghost use Rattle.jr_base.specs.Threads.{Next, Wants, Ended};
+ghost use Rattle.jr_base.specs.declared.action.Body.{Body};
+ghost use Rattle.jr_base.specs.declared.action.Reply.{Reply};
+ghost use Rattle.jr_base.specs.declared.kind.SlotKind.{SlotKind};
+ghost use Rattle.jr_arith.specs.declared.operator.Width.{Width};
+ghost use Rattle.jr_arith.specs.declared.operator.Unary.{Unary};
+ghost use Rattle.jr_arith.specs.declared.operator.Binary.{Binary};
+ghost use Rattle.jr_code.specs.Instructions.{Code, Instruction, OneOperand, TwoOperands, ConvertTo, Unknown, MethodCode};
+ghost use Rattle.jr_code.specs.Coded.{Tables, Grows, plain, row_of_binary, row_of_unary, row_of_conversion};
+ghost use Rattle.jr_code.specs.Machine.{State, start_state, step, DoesNext};
+ghost use Rattle.jr_ops.specs.Instructions.{Row, Letters, instruction_rows, kinds_taken, kinds_given};
+ghost use Rattle.jr_code.specs.Checked.{CodeRight, MethodRight, Effect, GoesTo, kinds_pushed};
+ghost use Rattle.jr_code.specs.Letters.{LettersFit};
+ghost use Rattle.jr_code.specs.Sound.{Sound, SoundMove, ReplyFits, GoesOn, StartRight};
+ghost use Rattle.jr_code.specs.Resumed.{After, IsAsking, IsEnding, IsGoing, Answered};
+ghost use Rattle.jr_code.specs.declared.instr.Instr.{Instr};
+
+/// Code does one thing next at most.
+pub fn code_does_one_thing()
+    ensures { (code : Code) (s : State) (replies : List Reply) (a b : Next) → DoesNext code s replies a → DoesNext code s replies b → a ≡ b }
+{}
+
+/// A thread that stops at an action, or at its end, does that next after the replies that it had.
+pub fn stopping_changes_nothing()
+    ensures asks { (code : Code) (start s : State) (replies : List Reply) (deed : Deed) →
+        After code start replies s → IsAsking deed (step code s) → DoesNext code start replies (Wants deed) }
+    ensures ends { (code : Code) (start s : State) (replies : List Reply) →
+        After code start replies s → IsEnding (step code s) → DoesNext code start replies Ended }
+{}
+
+/// A state that is kept, and taken on by a step or by a reply, is the one that all replies at once lead to.
+pub fn steps_and_replies_go_on()
+    ensures begins { (code : Code) (start : State) → After code start [] start }
+    ensures step { (code : Code) (start s next : State) (replies : List Reply) →
+        After code start replies s → IsGoing (step code s) next → After code start replies next }
+    ensures reply { (code : Code) (start s next : State) (replies : List Reply) (r : Reply) →
+        After code start replies s → Answered (step code s) r next → After code start (replies ++ r ∷ []) next }
+{}
+
+/// Checked code begins with locals of the right kinds.
+pub fn checked_code_begins()
+    ensures { (code : Code) → CodeRight code → (start : Option Body) → StartRight code start → Sound code (start_state code start) }
+{}
+
+/// Checked code never meets a missing operand, an operand of a wrong kind, or an end of its instructions.
+pub fn checked_code_goes_on()
+    ensures { (code : Code) → CodeRight code → (s : State) → Sound code s → GoesOn s → SoundMove code (ReplyFits code s) (step code s) }
+{}
+
+/// Kinds that are found along a path stand in every list of kinds with which the method is right.
+pub fn kinds_are_forced()
+    ensures { (code : Code) (c : MethodCode) (right : MethodRight code c) (at : ℕ) (ks after : List SlotKind) (i : Instruction) →
+        slice_get right.shapes at ≡ Some (Some ks) → slice_get c.instructions at ≡ Some i → Effect code c i ks after → GoesTo right.shapes at i after }
+{}
+
+/// What a coded instruction is stays so when the tables grow at their ends.
+pub fn tables_may_grow()
+    ensures { (t u : Tables) → Grows t u → (i : Instr) → plain t i ≢ Unknown → plain t i ≡ plain u i }
+{}
+
+/// An instruction takes and gives the kinds that its row says, wherever it may stand.
+pub fn rows_state_their_kinds()
+    ensures { (code : Code) (c : MethodCode) (t : Tables) (before : ℕ) (row : Row) → slice_get instruction_rows before ≡ Some row →
+        (arg : ℕ) (l : Letters) (ks : List SlotKind) →
+        LettersFit code c (plain t (record { code = before + 1; arg = arg })) l →
+        Effect code c (plain t (record { code = before + 1; arg = arg })) (kinds_pushed (kinds_taken l row) ks) (kinds_pushed (kinds_given l row) ks) }
+{}
+
+/// Each operator of both widths, and each conversion, has its row.
+pub fn operators_have_rows()
+    ensures between { (t : Tables) (arg : ℕ) (o : Binary) → plain t (record { code = row_of_binary o; arg = arg }) ≡ TwoOperands o }
+    ensures before { (t : Tables) (arg : ℕ) (o : Unary) → plain t (record { code = row_of_unary o; arg = arg }) ≡ OneOperand o }
+    ensures converts { (t : Tables) (arg : ℕ) (w : Width) → plain t (record { code = row_of_conversion w; arg = arg }) ≡ ConvertTo w }
+{}

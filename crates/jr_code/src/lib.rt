@@ -1,0 +1,12 @@
+//! Stack code, and what it does. Its one promise: code does at most one thing next, and code that keeps the rules
+//! never meets a missing operand, one of a wrong kind, or an end of its instructions. The definitions stand in
+//! `specs/`: `Instructions.antt` has code as plain data, `Coded.antt` the numbered rows, `Machine.antt` what code
+//! does, `Checked.antt` the rules.
+#![tactic(auto)]
+
+pub mod code;
+pub mod instr;
+pub mod laws;
+
+pub use code::{AssertCode, Code, FieldCode, MethodCode, Region, RegionKind};
+pub use instr::Instr;
