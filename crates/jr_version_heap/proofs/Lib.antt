@@ -1,0 +1,16 @@
+pub mod Chains
+pub mod Firsts
+pub mod Advances
+pub mod Unlinks
+pub mod Lists
+pub mod Attaches
+pub mod Retires
+pub mod Shapes
+pub mod Placements
+pub mod Keeps
+pub mod Additions
+pub mod Stands
+pub mod Writes
+pub mod Walks
+pub mod Pinned
+pub mod Makes

@@ -1,0 +1,11 @@
+//! A heap that keeps the versions of its cells which are still read.
+#![tactic(auto)]
+
+mod cells;
+mod chain;
+mod heap;
+mod needs;
+mod version;
+
+pub use heap::VersionHeap;
+pub use version::{Home, Past, Version};
