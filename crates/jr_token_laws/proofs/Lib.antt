@@ -1,0 +1,16 @@
+pub mod Annotations
+pub mod Cuts
+pub mod Examples
+pub mod FirstSigns
+pub mod Fronts
+pub mod Gapped
+pub mod Integers
+pub mod Prefixes
+pub mod Reread
+pub mod Respelled
+pub mod Rising
+pub mod Singles
+pub mod Sources
+pub mod Spelled
+pub mod Strings
+pub mod Tokens
