@@ -1,17 +1,15 @@
 -- A new cell with its first version keeps the chains and the lists.
-use Rattle.std.proofs.Common.{◌≡◌, ◌≢◌, ◌<◌, ◌≤◌, ◌+◌, ◌-◌, ◌⊎◌, inl, inr, ℕ, List, [], ◌∷◌, ◌++◌, length, get_or, Option, Some, None, Bool, true, false, refl, sym, ◌∙◌, ap, subst, arith, length-append}
+use Rattle.std.proofs.Common.{◌≡◌, ◌≢◌, ◌<◌, ◌≤◌, ◌+◌, ◌-◌, ◌⊎◌, inl, inr, ℕ, List, [], ◌∷◌, ◌++◌, length, get_or, Option, Some, None, true, false, refl, sym, ◌∙◌, ap, arith, length-append}
 use Rattle.std.specs.Prelude.{slice_index, slice_index_or}
-use Rattle.std.proofs.lemmas.Bool.{cases_eq, cases_lt, cases_Bool}
+use Rattle.std.proofs.lemmas.Bool.{cases_eq, cases_lt}
 use Rattle.jr_base.specs.declared.value.Value.{Value}
 use Rattle.jr_stamps.specs.declared.pins.Pin.{Pin}
 use Rattle.jr_version_heap.specs.declared.version.Past.{Past}
 use Rattle.jr_version_heap.specs.declared.version.Version.{Version}
-use Rattle.jr_version_heap.specs.declared.version.Home.{Home}
-use Rattle.jr_version_heap.specs.declared.version.Home.TheVariants.{Newest, Loose, Dead, Pending}
+use Rattle.jr_version_heap.specs.declared.version.Home.TheVariants.{Loose}
 use Rattle.jr_version_heap.specs.Versions.{version_in, is_newest, is_pending, IsFront, IsOlder, IsNewer, IsClosest, IsChained, HasFirst, HasFirsts, first_version}
 use Rattle.jr_version_heap.specs.Needs.{body, body_of, body_in, IsKept}
 use Rattle.jr_version_heap.proofs.Chains.{one_version}
-use Rattle.jr_version_heap.proofs.Lists.{body_is}
 use Rattle.jr_version_heap.proofs.Keeps.{kept_fresh}
 use Rattle.std.proofs.lemmas.List.{get_or_append_left, get_or-append_right}
 

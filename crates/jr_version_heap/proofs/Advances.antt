@@ -1,5 +1,5 @@
 -- A new version at the front of a chain keeps the chains.
-use Rattle.std.proofs.Common.{◌≡◌, ◌≢◌, ◌<◌, ◌≤◌, ◌+◌, ◌-◌, ◌⊎◌, inl, inr, ℕ, List, length, get_or, set, Option, Some, None, Bool, true, false, refl, sym, ◌∙◌, ap, subst, arith, length-set, get_or-set_same, get_or-set_other}
+use Rattle.std.proofs.Common.{◌≡◌, ◌≢◌, ◌<◌, ◌≤◌, ◌+◌, ◌⊎◌, inl, inr, ℕ, List, length, get_or, set, Option, Some, None, true, false, refl, sym, ◌∙◌, ap, arith, length-set, get_or-set_same, get_or-set_other}
 use Rattle.std.specs.Prelude.{slice_index}
 use Rattle.std.proofs.lemmas.Bool.{cases_eq, cases_Bool}
 use Rattle.std.proofs.lemmas.List.{get_or_default}
@@ -9,7 +9,7 @@ use Rattle.jr_version_heap.specs.declared.version.Version.{Version}
 use Rattle.jr_version_heap.specs.declared.version.Home.{Home}
 use Rattle.jr_version_heap.specs.declared.version.Home.TheVariants.{Newest, Loose, Dead, Pending}
 use Rattle.jr_version_heap.specs.Versions.{version_in, is_newest, is_pending, IsFront, IsOlder, IsNewer, IsClosest, IsChained, IsAdvanced, newest_version}
-use Rattle.jr_version_heap.proofs.Chains.{one_version, not_empty, behind_front}
+use Rattle.jr_version_heap.proofs.Chains.{one_version, not_empty}
 
 -- where a version of the new heap comes from
 pub data Origin (old : List (Option Version)) (r n : ℕ) (x y : Version) (k : ℕ) (v : Version) : Type 0 where

@@ -1,13 +1,13 @@
 -- Laws of the chains of versions.
-use Rattle.std.proofs.Common.{◌≡◌, ◌≢◌, ◌<◌, ◌≤◌, ◌+◌, ◌-◌, ◌⊎◌, inl, inr, ℕ, List, length, get_or, Option, Some, None, Bool, true, false, refl, sym, ◌∙◌, ap, subst, arith}
+use Rattle.std.proofs.Common.{◌≡◌, ◌≢◌, ◌<◌, ◌≤◌, ◌⊎◌, inl, inr, ℕ, List, length, Option, Some, None, true, false, refl, sym, ◌∙◌, ap, arith}
 use Rattle.std.specs.Prelude.{slice_index}
-use Rattle.std.proofs.lemmas.Bool.{cases_eq, cases_lt, cases_Bool}
+use Rattle.std.proofs.lemmas.Bool.{cases_eq, cases_Bool}
 use Rattle.jr_base.specs.declared.value.Value.{Value}
 use Rattle.jr_version_heap.specs.declared.version.Past.{Past}
 use Rattle.jr_version_heap.specs.declared.version.Version.{Version}
 use Rattle.jr_version_heap.specs.declared.version.Home.{Home}
 use Rattle.jr_version_heap.specs.declared.version.Home.TheVariants.{Newest, Loose, Dead, Pending}
-use Rattle.jr_version_heap.specs.Versions.{version_in, is_newest, is_pending, Serves, IsFront, IsOlder, IsNewer, IsClosest, IsChained, IsReached, IsBehind, since_of}
+use Rattle.jr_version_heap.specs.Versions.{version_in, is_newest, is_pending, Serves, IsChained, IsReached, IsBehind, since_of}
 
 -- two versions under one key are one
 pub one_version : (slots : List (Option Version)) (k j : ℕ) (v w : Version) → version_in slots k ≡ Some v → version_in slots j ≡ Some w → k ≡ j → v ≡ w

@@ -14,3 +14,4 @@ pub mod Writes
 pub mod Walks
 pub mod Pinned
 pub mod Makes
+pub mod Stamps

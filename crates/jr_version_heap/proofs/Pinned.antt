@@ -1,5 +1,5 @@
 -- What setting a pin, taking one away, and freeing leave.
-use Rattle.std.proofs.Common.{◌≡◌, ◌≢◌, ◌<◌, ◌≤◌, ◌+◌, ◌-◌, ◌⊎◌, inl, inr, ℕ, List, [], ◌∷◌, ◌++◌, length, Option, Some, None, Bool, true, false, refl, sym, ◌∙◌, ap, subst, arith}
+use Rattle.std.proofs.Common.{◌≡◌, ◌≢◌, ◌≤◌, ◌+◌, ◌⊎◌, inl, inr, ℕ, List, [], ◌∷◌, ◌++◌, length, Option, Some, None, true, false, refl, sym, ◌∙◌, ap, subst, arith}
 use Rattle.std.proofs.lemmas.Bool.{cases_eq, cases_Bool}
 use Rattle.jr_base.specs.declared.number.Stamp.{Stamp}
 use Rattle.jr_base.specs.declared.value.Ask.{Ask}
@@ -14,8 +14,8 @@ use Rattle.jr_version_heap.specs.declared.version.Version.{Version}
 use Rattle.jr_version_heap.specs.declared.version.Home.{Home}
 use Rattle.jr_version_heap.specs.declared.version.Home.TheVariants.{Newest, Loose, Dead, Pending}
 use Rattle.jr_version_heap.specs.Versions.{version_in, is_newest, is_pending, IsChained, LAST}
-use Rattle.jr_version_heap.specs.Needs.{Placing, IsNeeded, IsUnneeded, IsToPlace, IsListToPlace, IsAllPlaced, IsPlacedSo, IsPlaced, IsLeft, IsKept, IsListed, IsOnce, Has, SameStamps, Lasts, AllLast, LosesPin, Body, body, body_of, body_in, stamp_of}
-use Rattle.jr_version_heap.specs.Histories.{VersionsOf, StandsFor, IsReadable, Shows, ShowsIn, ShowsAt, IsHeap, KeepsWhatIsRead, seen_before, slot_then, Change}
+use Rattle.jr_version_heap.specs.Needs.{Placing, IsNeeded, IsToPlace, IsListToPlace, IsAllPlaced, IsPlacedSo, IsPlaced, IsLeft, IsKept, IsListed, IsOnce, Has, SameStamps, Lasts, AllLast, LosesPin, Body, body, body_of, body_in, stamp_of}
+use Rattle.jr_version_heap.specs.Histories.{VersionsOf, StandsFor, IsReadable, ShowsIn, IsHeap, KeepsWhatIsRead, seen_before, slot_then, Change}
 use Rattle.jr_version_heap.proofs.Stands.{shows_still}
 use Rattle.std.specs.Prelude.{is_some}
 use Rattle.jr_version_heap.proofs.Shapes.{chained_by}

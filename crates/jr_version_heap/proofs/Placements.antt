@@ -1,5 +1,5 @@
 -- What the calls that place a version leave.
-use Rattle.std.proofs.Common.{◌≡◌, ◌≢◌, ◌<◌, ◌≤◌, ◌+◌, ◌⊎◌, inl, inr, ℕ, List, ◌∷◌, [], ◌++◌, length, Option, Some, None, Bool, true, false, refl, sym, ◌∙◌, ap, subst, arith}
+use Rattle.std.proofs.Common.{◌≡◌, ◌≢◌, ◌<◌, ◌≤◌, inl, inr, ℕ, List, ◌∷◌, [], ◌++◌, length, Option, Some, None, false, refl, sym, ◌∙◌, ap, subst, arith}
 use Rattle.std.proofs.lemmas.Bool.{cases_eq}
 use Rattle.jr_base.specs.declared.number.Stamp.{Stamp}
 use Rattle.jr_stamps.specs.declared.pins.Pin.{Pin}
@@ -8,12 +8,12 @@ use Rattle.jr_stamps.specs.Pins.{pin_in, IsGreatest, IsLatest}
 use Rattle.jr_version_heap.specs.declared.version.Past.{Past}
 use Rattle.jr_version_heap.specs.declared.version.Version.{Version}
 use Rattle.jr_version_heap.specs.declared.version.Home.{Home}
-use Rattle.jr_version_heap.specs.declared.version.Home.TheVariants.{Newest, Loose, Dead, Pending}
+use Rattle.jr_version_heap.specs.declared.version.Home.TheVariants.{Dead, Pending}
 use Rattle.jr_version_heap.specs.Versions.{version_in, is_newest, is_pending, IsChained, IsUnlinked, IsBehind}
-use Rattle.jr_version_heap.specs.Needs.{Body, body, body_of, body_in, Has, IsOnce, IsKept, IsPlaced, IsPlacedSo, IsToPlace, Placing, BeginsBy, IsUnneeded}
+use Rattle.jr_version_heap.specs.Needs.{Body, body, body_of, body_in, Has, IsKept, IsPlaced, IsPlacedSo, IsToPlace, Placing, BeginsBy, IsUnneeded}
 use Rattle.jr_version_heap.proofs.Chains.{one_version}
 use Rattle.jr_version_heap.proofs.Lists.{body_is, has_version, listed_home, one_body, IsOnce-length}
-use Rattle.jr_version_heap.proofs.Shapes.{Same, chained_by}
+use Rattle.jr_version_heap.proofs.Shapes.{chained_by}
 use Rattle.jr_version_heap.proofs.Attaches.{kept_attach}
 use Rattle.jr_version_heap.proofs.Retires.{kept_retire}
 use Rattle.jr_version_heap.proofs.Unlinks.{leads, To, Elsewhere}

@@ -1,9 +1,8 @@
 -- What the heap shows after each change.
-use Rattle.std.proofs.Common.{◌≡◌, ◌≢◌, ◌<◌, ◌≤◌, ◌+◌, ◌-◌, ◌⊎◌, inl, inr, ℕ, List, [], ◌∷◌, ◌++◌, length, Option, Some, None, Bool, true, false, cond, refl, sym, ◌∙◌, ap, subst, arith}
-use Rattle.std.specs.Prelude.{nat_lt, ◌==◌, ◌&&◌, slice_index, slice_get, IsSome, MatchOption, eqb, ltb}
-use Rattle.std.proofs.lemmas.Bool.{cases_eq, cases_lt, cases_Bool, ltb-true, ltb-false, eqb-true, eq-eqb, and_parts, and_from}
+use Rattle.std.proofs.Common.{◌≡◌, ◌≢◌, ◌<◌, ◌≤◌, ◌+◌, ◌-◌, ◌⊎◌, inl, inr, ℕ, List, [], ◌∷◌, ◌++◌, Option, Some, None, Bool, true, false, cond, refl, sym, ◌∙◌, ap, subst, arith}
+use Rattle.std.specs.Prelude.{nat_lt, ◌==◌}
+use Rattle.std.proofs.lemmas.Bool.{cases_eq, ltb-true, ltb-false, eqb-true, eq-eqb, and_parts, and_from}
 use Rattle.jr_base.specs.declared.number.ObjId.{ObjId}
-use Rattle.jr_base.specs.declared.number.Stamp.{Stamp}
 use Rattle.jr_base.specs.declared.value.Cell.{Cell}
 use Rattle.jr_base.specs.declared.value.Value.{Value}
 use Rattle.jr_base.specs.declared.value.Ask.{Ask}
@@ -13,13 +12,12 @@ use Rattle.jr_base.specs.declared.value.Seen.TheVariants as answers
 use Rattle.jr_heap.specs.declared.layout.Place.{Place}
 use Rattle.jr_heap.specs.Layout.{LayoutOf, object_at, slot_at, cell_at, HasOwnPlaces}
 use Rattle.jr_stamps.specs.declared.pins.Pin.{Pin}
-use Rattle.jr_stamps.specs.declared.pins.PinId.{PinId}
-use Rattle.jr_stamps.specs.Pins.{PinsOf, pin_in, pin_at, IsPinned}
+use Rattle.jr_stamps.specs.Pins.{PinsOf, pin_in, IsPinned}
 use Rattle.jr_version_heap.specs.declared.version.Version.{Version}
-use Rattle.jr_version_heap.specs.Versions.{version_in, is_newest, is_pending, IsChained, IsAdvanced, Serves, newest_version, LAST}
-use Rattle.jr_version_heap.specs.Needs.{Body, body, body_of, body_in, IsKept, IsPlaced, SameStamps, Lasts, stamp_of}
-use Rattle.jr_version_heap.specs.Histories.{Change, Made, Wrote, after, seen_from, seen_before, same_cell, slot_then, length_then, IsShown, ShowsAt, ShowsIn, VersionsOf, IsReadable, room_of}
-use Rattle.jr_version_heap.proofs.Lists.{body_is, has_version, one_body}
+use Rattle.jr_version_heap.specs.Versions.{version_in, IsAdvanced, newest_version, LAST}
+use Rattle.jr_version_heap.specs.Needs.{Body, body, body_of, body_in, IsPlaced, SameStamps, Lasts, stamp_of}
+use Rattle.jr_version_heap.specs.Histories.{Change, Wrote, after, seen_from, same_cell, slot_then, IsShown, ShowsAt, ShowsIn, room_of}
+use Rattle.jr_version_heap.proofs.Lists.{one_body}
 
 -- ---- a history with one more change
 
@@ -218,7 +216,7 @@ module _ (layout : LayoutOf) (old middle new : List (Option Version)) (r n place
 
 -- ---- pins
 
-had_stamp : (o : Option Pin) (stamp : ℕ) → stamp_of o ≡ Some stamp → (pin : Pin) × (o ≡ Some pin) × (pin.stamp.0 ≡ stamp)
+pub had_stamp : (o : Option Pin) (stamp : ℕ) → stamp_of o ≡ Some stamp → (pin : Pin) × (o ≡ Some pin) × (pin.stamp.0 ≡ stamp)
 had_stamp None stamp is = cc
 had_stamp (Some pin) stamp is = (pin, refl, cc)
 

@@ -1,7 +1,7 @@
 -- A version that leaves its chain leaves the chains linked.
-use Rattle.std.proofs.Common.{◌≡◌, ◌≢◌, ◌<◌, ◌≤◌, ◌+◌, ◌-◌, ◌⊎◌, inl, inr, ℕ, List, length, get_or, Option, Some, None, Bool, true, false, refl, sym, ◌∙◌, ap, subst, arith}
+use Rattle.std.proofs.Common.{◌≡◌, ◌≢◌, ◌<◌, ◌⊎◌, inl, inr, ℕ, List, length, Option, Some, None, true, false, refl, sym, ◌∙◌, ap, arith}
 use Rattle.std.specs.Prelude.{slice_index}
-use Rattle.std.proofs.lemmas.Bool.{cases_eq, cases_Bool}
+use Rattle.std.proofs.lemmas.Bool.{cases_eq}
 use Rattle.jr_version_heap.specs.declared.version.Past.{Past}
 use Rattle.jr_version_heap.specs.declared.version.Version.{Version}
 use Rattle.jr_version_heap.specs.declared.version.Home.{Home}

@@ -1,10 +1,8 @@
 -- A walk along a chain finds what a stamp shows.
 use Rattle.std.proofs.Common.{◌≡◌, ◌<◌, ◌≤◌, ◌+◌, ◌⊎◌, inl, inr, ℕ, List, Option, Some, None, Bool, true, false, cond, refl, sym, ◌∙◌, ap, subst, arith}
-use Rattle.std.specs.Prelude.{nat_lt}
 use Rattle.std.proofs.lemmas.Bool.{cases_Bool, lt-ltb}
 use Rattle.jr_base.specs.declared.value.Cell.{Cell}
 use Rattle.jr_base.specs.declared.value.Value.{Value}
-use Rattle.jr_base.specs.declared.value.Ask.{Ask}
 use Rattle.jr_base.specs.declared.value.Ask.TheVariants as asks
 use Rattle.jr_base.specs.declared.value.Seen.{Seen}
 use Rattle.jr_base.specs.declared.value.Seen.TheVariants as answers
@@ -16,7 +14,7 @@ use Rattle.jr_version_heap.specs.declared.version.Version.{Version}
 use Rattle.jr_version_heap.specs.declared.version.Home.{Home}
 use Rattle.jr_version_heap.specs.declared.version.Home.TheVariants.{Newest, Loose, Dead, Pending}
 use Rattle.jr_version_heap.specs.Versions.{version_in, is_newest, is_pending, Serves}
-use Rattle.jr_version_heap.specs.Needs.{Body, body}
+use Rattle.jr_version_heap.specs.Needs.{Body}
 use Rattle.jr_version_heap.specs.Histories.{slot_then, IsShown, ShowsIn, ShowsAt, IsHeap}
 use Rattle.jr_version_heap.proofs.Lists.{has_version}
 use Rattle.jr_version_heap.proofs.Stands.{slot_late}

@@ -1,5 +1,5 @@
 -- What a write leaves.
-use Rattle.std.proofs.Common.{◌≡◌, ◌≢◌, ◌<◌, ◌≤◌, ◌+◌, ◌⊎◌, inl, inr, ℕ, List, [], ◌∷◌, ◌++◌, length, Option, Some, None, refl, sym, ◌∙◌, ap, subst, arith}
+use Rattle.std.proofs.Common.{◌≡◌, ◌<◌, ◌≤◌, ◌+◌, inl, inr, ℕ, List, [], ◌∷◌, ◌++◌, length, Option, Some, refl, sym, ◌∙◌, ap, subst, arith}
 use Rattle.jr_base.specs.declared.number.Stamp.{Stamp}
 use Rattle.jr_base.specs.declared.number.ObjId.{ObjId}
 use Rattle.jr_base.specs.declared.value.Cell.{Cell}
@@ -8,13 +8,13 @@ use Rattle.jr_heap.specs.declared.layout.Place.{Place}
 use Rattle.jr_heap.specs.Layout.{LayoutOf, object_at, cell_at, HasOwnPlaces}
 use Rattle.jr_stamps.specs.declared.pins.Pin.{Pin}
 use Rattle.jr_stamps.specs.declared.pins.PinId.{PinId}
-use Rattle.jr_stamps.specs.Pins.{PinsOf, pin_in, IsPinned, IsLatest}
+use Rattle.jr_stamps.specs.Pins.{PinsOf, IsPinned, IsLatest}
 use Rattle.jr_version_heap.specs.declared.version.Past.{Past}
 use Rattle.jr_version_heap.specs.declared.version.Version.{Version}
 use Rattle.jr_version_heap.specs.declared.version.Home.TheVariants.{Loose}
 use Rattle.jr_version_heap.specs.Versions.{IsChained, IsAdvanced}
-use Rattle.jr_version_heap.specs.Needs.{Placing, IsToPlace, IsPlacedSo, IsPlaced, IsKept, SameStamps, body, body_of, body_in}
-use Rattle.jr_version_heap.specs.Histories.{VersionsOf, StandsFor, IsReadable, Shows, ShowsIn, IsHeap, seen_before, Change, Wrote}
+use Rattle.jr_version_heap.specs.Needs.{Placing, IsToPlace, IsPlacedSo, IsPlaced, SameStamps, body_of, body_in}
+use Rattle.jr_version_heap.specs.Histories.{VersionsOf, StandsFor, IsReadable, ShowsIn, IsHeap, seen_before, Change, Wrote}
 use Rattle.jr_version_heap.proofs.Keeps.{kept_advanced, kept_done}
 use Rattle.jr_version_heap.proofs.Stands.{write_shows, pinned_was, seen_more}
 

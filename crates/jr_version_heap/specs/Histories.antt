@@ -1,5 +1,5 @@
 -- What a history of makes and writes shows, and what a heap with versions shows.
-use Rattle.std.specs.Prelude.{◌≡◌, ◌≢◌, ◌⊎◌, ◌==◌, ◌&&◌, ℕ, ◌+◌, ◌-◌, ◌≤◌, ◌<◌, List, [], ◌∷◌, ◌++◌, length, Option, Some, None, Bool, false, cond, nat_lt, slice_get, is_some, count_by}
+use Rattle.std.specs.Prelude.{◌≡◌, ◌≢◌, ◌⊎◌, ◌==◌, ◌&&◌, ℕ, ◌+◌, ◌-◌, ◌≤◌, ◌<◌, List, [], ◌∷◌, length, Option, Some, None, Bool, false, cond, nat_lt, slice_get, is_some, count_by}
 use Rattle.jr_base.specs.declared.number.ObjId.{ObjId}
 use Rattle.jr_base.specs.declared.value.Cell.{Cell}
 use Rattle.jr_base.specs.declared.value.Value.{Value}
@@ -9,14 +9,14 @@ use Rattle.jr_base.specs.declared.value.Seen.{Seen}
 use Rattle.jr_base.specs.declared.value.Seen.TheVariants as answers
 use Rattle.jr_base.specs.Spare.{Spare}
 use Rattle.jr_heap.specs.declared.layout.Place.{Place}
-use Rattle.jr_heap.specs.Layout.{LayoutOf, object_at, slot_at, MAX_CELLS}
+use Rattle.jr_heap.specs.Layout.{LayoutOf, object_at, slot_at}
 use Rattle.jr_heap.specs.Plain.{seen_value, seen_length}
 use Rattle.jr_stamps.specs.declared.pins.Pin.{Pin}
-use Rattle.jr_stamps.specs.Pins.{PinsOf, pin_in, IsPinned}
+use Rattle.jr_stamps.specs.Pins.{PinsOf, IsPinned}
 use Rattle.jr_version_heap.specs.declared.version.Past.{Past}
 use Rattle.jr_version_heap.specs.declared.version.Version.{Version}
 use Rattle.jr_version_heap.specs.declared.version.Home.TheVariants.{Loose}
-use Rattle.jr_version_heap.specs.Versions.{IsChained, is_pending, LAST}
+use Rattle.jr_version_heap.specs.Versions.{IsChained, LAST}
 use Rattle.jr_version_heap.specs.Needs.{Body, body_in, IsKept, IsNeeded, IsUnneeded, Has, IsOnce}
 
 -- ---- a history

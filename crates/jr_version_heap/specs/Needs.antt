@@ -1,5 +1,5 @@
 -- Which versions a pin needs, and which are pending.
-use Rattle.std.specs.Prelude.{◌≡◌, ◌≢◌, ◌⊎◌, ℕ, ◌+◌, ◌≤◌, ◌<◌, List, [], ◌∷◌, Option, Some, None, Bool, true, false, length}
+use Rattle.std.specs.Prelude.{◌≡◌, ◌≢◌, ◌⊎◌, ℕ, ◌≤◌, ◌<◌, List, [], ◌∷◌, Option, Some, None, true, false, length}
 use Rattle.jr_base.specs.declared.number.Stamp.{Stamp}
 use Rattle.jr_base.specs.declared.value.Value.{Value}
 use Rattle.jr_stamps.specs.declared.pins.Pin.{Pin}

@@ -279,7 +279,8 @@ impl VersionHeap {
         self.pins.reserve(n)
     }
 
-    /// Pins a stamp, so that it may be read until the pin is taken away. Takes no memory. Costs a search of the pins.
+    /// Pins a stamp, so that it may be read until the pin is taken away. Takes no memory. Costs a search of the pins, and
+    /// moves those of later stamps by a place.
     pub fn pin(&mut self, s: Stamp) -> PinId
         requires spare { 0 < self.old.pins.spare }
         requires allowed { IsReadable self.old s.0 }

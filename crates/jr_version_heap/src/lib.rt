@@ -5,6 +5,8 @@ mod cells;
 mod chain;
 mod heap;
 mod needs;
+#[cfg(test)]
+mod tests;
 mod version;
 
 pub use heap::VersionHeap;

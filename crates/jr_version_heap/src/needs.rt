@@ -1,12 +1,12 @@
 //! Where versions go that are no longer the newest of their cells.
 
-ghost use Rattle.std.specs.Prelude.{◌≡◌, ◌+◌, ◌≤◌, ◌<◌, ℕ, List, ◌∷◌, Option, Some, None, length, vec_len, vec_capacity, min, [], false};
+ghost use Rattle.std.specs.Prelude.{◌≡◌, ◌+◌, ◌≤◌, ◌<◌, ℕ, List, ◌∷◌, ◌++◌, Option, Some, None, length, vec_len, vec_capacity, min, [], false};
 ghost use Rattle.slab.specs.Slab.{slab_len};
 ghost use Rattle.jr_base.specs.declared.number.Stamp.{Stamp as StampOf};
 ghost use Rattle.jr_stamps.specs.declared.pins.Pin.{Pin};
 ghost use Rattle.jr_stamps.specs.declared.pins.PinId.{PinId as PinOf};
 ghost use Rattle.jr_version_heap.specs.Needs.{Placing, IsToPlace, IsPlacedSo, IsPlaced, IsUnneeded, BeginsBy, Body, SameStamps, IsListToPlace, IsAllPlaced, IsKept, AllLast, body_in};
-ghost use Rattle.jr_version_heap.specs.Versions.{IsChained, is_pending};
+ghost use Rattle.jr_version_heap.specs.Versions.{IsChained, is_pending, since_of, version_in};
 ghost use Rattle.jr_version_heap.specs.declared.version.Home.TheVariants.{Loose};
 ghost use Rattle.jr_version_heap.specs.declared.version.Past.{Past};
 
@@ -41,12 +41,22 @@ pub fn attach(versions: &mut Slab<Version>, pins: &mut Pins, key: usize, pin: Pi
 pub fn retire(versions: &mut Slab<Version>, pending: &mut Vec<usize>, key: usize)
     requires { (g : Placing) × (pins : List (Option Pin)) × (latest : Option (PinOf × StampOf)) × IsToPlace versions.old.slots pins latest key (vec_capacity pending.old) g × (g.pending ≡ pending.old.items) }
     ensures so { (g : Placing) (pins : List (Option Pin)) (latest : Option (PinOf × StampOf)) → IsToPlace versions.old.slots pins latest key (vec_capacity pending.old) g → g.pending ≡ pending.old.items → ((b : Body) → body_in versions.old.slots key ≡ Some b → IsUnneeded pins b) → IsPlacedSo versions.old.slots versions.new.slots pins pending.new.items key (vec_capacity pending.old) g }
+    ensures waits { pending.new.items ≡ pending.old.items ++ key ∷ [] }
     ensures placed { IsPlaced versions.old.slots versions.new.slots key }
     ensures room { vec_capacity pending.new ≡ vec_capacity pending.old }
     ensures len { slab_len versions.new ≡ slab_len versions.old }
     ensures capacity { versions.new.capacity ≡ versions.old.capacity }
 {
     unlink(versions, key);
+    wait(pending, key);
+}
+
+// Has a version wait behind all others.
+fn wait(pending: &mut Vec<usize>, key: usize)
+    requires { vec_len pending.old < vec_capacity pending.old }
+    ensures waits { pending.new.items ≡ pending.old.items ++ key ∷ [] }
+    ensures room { vec_capacity pending.new ≡ vec_capacity pending.old }
+{
     pending.push_reserved(key);
 }
 
@@ -61,6 +71,7 @@ pub fn settle(
 )
     requires { (g : Placing) × IsToPlace versions.old.slots pins.old.pins latest key (vec_capacity pending.old) g × (g.pending ≡ pending.old.items) }
     ensures so { (g : Placing) → IsToPlace versions.old.slots pins.old.pins latest key (vec_capacity pending.old) g → g.pending ≡ pending.old.items → IsPlacedSo versions.old.slots versions.new.slots pins.new.pins pending.new.items key (vec_capacity pending.old) g }
+    ensures needed { (pin : PinOf) (stamp : StampOf) → latest ≡ Some (pin, stamp) → since_of (version_in versions.old.slots key) ≤ stamp.0 → pending.new.items ≡ pending.old.items }
     ensures placed { IsPlaced versions.old.slots versions.new.slots key }
     ensures stamps { SameStamps pins.old.pins pins.new.pins }
     ensures spare { pins.new.spare ≡ pins.old.spare }

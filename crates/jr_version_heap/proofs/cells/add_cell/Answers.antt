@@ -1,7 +1,7 @@
 -- The chains stand with the new cell.
-use Rattle.std.proofs.Common.{◌≡◌, ap, refl, arith}
+use Rattle.std.proofs.Common.{◌≡◌, arith}
 use Rattle.std.specs.Prelude.{length}
-use Rattle.jr_version_heap.specs.Versions.{HasFirst, first_version}
+use Rattle.jr_version_heap.specs.Versions.{HasFirst}
 use Rattle.jr_version_heap.proofs.Additions.{chained_first}
 use Rattle.jr_version_heap.proofs.cells.add_cell.Goals as goal
 

@@ -1,9 +1,7 @@
 -- One more value is that of a new cell.
-use Rattle.std.proofs.Common.{◌≡◌, ◌≤◌, ap, refl, arith, ◌∙◌, sym, subst, ℕ, List, [], None}
+use Rattle.std.proofs.Common.{arith}
 use Rattle.std.proofs.lemmas.List.{get_or_default}
 use Rattle.jr_base.specs.declared.value.Value.TheVariants.{Null}
-use Rattle.jr_version_heap.specs.declared.version.Home.TheVariants.{Loose}
-use Rattle.jr_version_heap.specs.Needs.{IsKept, body_in}
 use Rattle.jr_version_heap.proofs.Additions.{firsts_more, kept_first}
 use Rattle.jr_version_heap.proofs.cells.add_cells.Goals as goal
 

@@ -1,9 +1,7 @@
 -- The version has a neighbour behind it, and may have one before it; the three are apart.
-use Rattle.std.proofs.Common.{◌≡◌, ◌≢◌, ap, sym, ◌∙◌, refl, arith}
-use Rattle.std.specs.Prelude.{ℕ, Option, Some, None, IsSome, is_some, true}
-use Rattle.slab.specs.Slab.{get, ContainsKey}
-use Rattle.jr_version_heap.specs.Versions.{version_in, IsUnlinked}
-use Rattle.jr_version_heap.specs.declared.version.Version.{Version}
+use Rattle.std.proofs.Common.{ap, ◌∙◌}
+use Rattle.std.specs.Prelude.{is_some}
+use Rattle.jr_version_heap.specs.Versions.{IsUnlinked}
 use Rattle.jr_version_heap.proofs.Chains.{has_newer, has_older, no_newer, behind_is}
 use Rattle.jr_version_heap.proofs.Unlinks.{chained_unlink, unlinked_by_writes}
 use Rattle.jr_version_heap.proofs.chain.unlink.Goals as goal

@@ -1,6 +1,6 @@
 -- The last of the pending versions waits, and stands in no chain.
-use Rattle.std.proofs.Common.{◌≡◌, ◌+◌, ◌++◌, ◌∷◌, ap, sym, ◌∙◌, refl, arith, subst}
-use Rattle.std.specs.Prelude.{ℕ, List, [], vec_capacity, Option, Some, None}
+use Rattle.std.proofs.Common.{◌≡◌, ◌∙◌, arith, subst}
+use Rattle.std.specs.Prelude.{ℕ, List, [], vec_capacity, None}
 use Rattle.std.proofs.lemmas.List.{append-nil}
 use Rattle.jr_version_heap.specs.declared.version.Home.TheVariants.{Loose}
 use Rattle.jr_version_heap.specs.Needs.{IsKept, body_in}

@@ -1,8 +1,8 @@
 -- The new cells stand behind the others.
-use Rattle.std.proofs.Common.{◌≡◌, ◌<◌, ◌≤◌, ◌+◌, ◌⊎◌, inl, inr, ap, sym, refl, subst, arith, length}
+use Rattle.std.proofs.Common.{◌≡◌, ◌<◌, ap, sym, subst, arith, length}
 use Rattle.std.specs.Prelude.{ℕ, None, vec_len, vec_capacity}
 use Rattle.jr_heap.specs.Layout.{object_at}
-use Rattle.jr_version_heap.specs.Versions.{HasFirsts, IsChained}
+use Rattle.jr_version_heap.specs.Versions.{HasFirsts}
 use Rattle.jr_version_heap.specs.contracts.heap.VersionHeap.{the_view}
 use Rattle.slab.specs.Slab.{slab_len}
 use Rattle.jr_version_heap.specs.Histories.{VersionsOf, StandsFor, spare_versions}

@@ -1,5 +1,5 @@
 -- One object after another is made, into room that was reserved for it.
-use Rattle.std.proofs.Common.{◌≡◌, ◌+◌, ◌∙◌, ap, refl, arith, ℕ, List}
+use Rattle.std.proofs.Common.{◌+◌, ◌∙◌, ap, refl, arith, ℕ, List}
 use Rattle.jr_heap.specs.declared.layout.Place.{Place}
 use Rattle.jr_heap.specs.Layout.{find_object}
 use Rattle.jr_version_heap.specs.Histories.{VersionsOf}

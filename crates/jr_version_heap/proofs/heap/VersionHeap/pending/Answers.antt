@@ -1,5 +1,5 @@
 -- The pending versions are distinct keys that fit a u32.
-use Rattle.std.proofs.Common.{◌≡◌, subst, arith}
+use Rattle.std.proofs.Common.{subst, arith}
 use Rattle.jr_version_heap.specs.Histories.{KeepsWhatIsRead}
 use Rattle.jr_version_heap.specs.contracts.heap.VersionHeap.{the_view}
 use Rattle.jr_version_heap.proofs.Pinned.{keeps_what_is_read, pending_few}

@@ -1,7 +1,6 @@
 -- A stamp that may be pinned could be read before.
-use Rattle.std.proofs.Common.{◌≡◌, ap, sym, refl, subst}
+use Rattle.std.proofs.Common.{sym, subst}
 use Rattle.jr_version_heap.specs.Histories.{VersionsOf, IsReadable, StandsFor}
-use Rattle.jr_version_heap.specs.contracts.heap.VersionHeap.{the_view}
 use Rattle.jr_version_heap.proofs.Pinned.{pin_heap, pin_readable}
 use Rattle.jr_version_heap.proofs.heap.VersionHeap.pin.Goals as goal
 

@@ -1,5 +1,5 @@
 -- What the kept versions show is what the history says.
-use Rattle.std.proofs.Common.{◌≡◌, subst, arith}
+use Rattle.std.proofs.Common.{subst, arith}
 use Rattle.jr_base.specs.declared.value.Ask.{Ask}
 use Rattle.jr_version_heap.specs.Histories.{Shows, seen_before}
 use Rattle.jr_version_heap.proofs.heap.VersionHeap.read_at.Goals as goal

@@ -1,5 +1,5 @@
 -- There is more room for pending versions.
-use Rattle.std.proofs.Common.{◌≡◌, ap, List, Option, arith}
+use Rattle.std.proofs.Common.{ap}
 use Rattle.slab.specs.Slab.{Slab}
 use Rattle.jr_version_heap.specs.declared.version.Version.{Version}
 use Rattle.jr_version_heap.proofs.Makes.{reserve_heap}

@@ -1,5 +1,5 @@
 -- No stamp that may be read shows a version that is freed.
-use Rattle.std.proofs.Common.{◌≡◌, ap, sym, refl, subst}
+use Rattle.std.proofs.Common.{sym, refl, subst}
 use Rattle.jr_version_heap.specs.Histories.{VersionsOf, StandsFor}
 use Rattle.jr_version_heap.specs.contracts.heap.VersionHeap.{the_view}
 use Rattle.jr_version_heap.proofs.Pinned.{sweep_stands}

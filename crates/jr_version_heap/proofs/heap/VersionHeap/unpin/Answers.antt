@@ -1,10 +1,10 @@
 -- The versions of the pin's dead list are placed anew.
-use Rattle.std.proofs.Common.{◌≡◌, ap, sym, ◌∙◌, refl, subst}
-use Rattle.std.specs.Prelude.{ℕ, Some, vec_capacity}
+use Rattle.std.proofs.Common.{ap, sym, ◌∙◌, refl, subst}
+use Rattle.std.specs.Prelude.{ℕ, vec_capacity}
 use Rattle.jr_base.specs.declared.number.Stamp.{Stamp}
 use Rattle.jr_stamps.specs.Pins.{pin_in, IsLatest}
 use Rattle.jr_version_heap.specs.Needs.{LosesPin, stamp_of}
-use Rattle.jr_version_heap.specs.Histories.{VersionsOf, IsReadable, StandsFor}
+use Rattle.jr_version_heap.specs.Histories.{VersionsOf, StandsFor}
 use Rattle.jr_version_heap.specs.contracts.heap.VersionHeap.{the_view}
 use Rattle.jr_version_heap.proofs.Pinned.{unpin_list, unpin_heap, still_stands, lost_readable, no_stamp}
 use Rattle.jr_version_heap.proofs.heap.VersionHeap.unpin.Goals as goal

@@ -1,14 +1,10 @@
 -- The chain of the cell has the version that the stamp shows.
-use Rattle.std.proofs.Common.{◌≡◌, ◌<◌, ◌≤◌, ◌+◌, ◌⊎◌, ap, sym, ◌∙◌, refl, arith, subst, length}
-use Rattle.std.specs.Prelude.{Option, Some}
-use Rattle.jr_base.specs.declared.value.Ask.{Ask}
+use Rattle.std.proofs.Common.{◌≡◌, ap, sym, ◌∙◌, subst}
 use Rattle.jr_base.specs.declared.value.Ask.TheVariants as asks
 use Rattle.jr_base.specs.declared.value.Seen.TheVariants as answers
-use Rattle.jr_base.specs.declared.value.Seen.{Seen}
 use Rattle.jr_base.specs.declared.value.Value.{Value}
 use Rattle.jr_version_heap.specs.Histories.{VersionsOf, Shows, IsReadable}
-use Rattle.jr_version_heap.specs.contracts.heap.VersionHeap.{the_view}
-use Rattle.jr_version_heap.proofs.Walks.{read_found, Found}
+use Rattle.jr_version_heap.proofs.Walks.{read_found}
 use Rattle.jr_version_heap.proofs.heap.VersionHeap.value_before.Goals as goal
 
 pub returns-in-Some-find : goal.returns-in-Some-find

@@ -1,5 +1,5 @@
 -- The new version stands in front, and the one that it replaced is placed.
-use Rattle.std.proofs.Common.{◌≡◌, ◌<◌, ◌≤◌, ◌+◌, ap, sym, ◌∙◌, refl, arith, subst, length}
+use Rattle.std.proofs.Common.{◌≡◌, ◌<◌, ◌≤◌, ◌+◌, ap, sym, refl, arith, subst}
 use Rattle.std.specs.Prelude.{ℕ, vec_capacity}
 use Rattle.slab.specs.Slab.{slab_len}
 use Rattle.jr_stamps.specs.Pins.{IsPinned}
