@@ -1,6 +1,5 @@
 -- Lists of single clauses, one more at a time.
-use Rattle.std.proofs.Common.{◌≡◌, ◌<◌, ◌≤◌, ◌+◌, ◌⊎◌, ℕ, zero, suc, List, [], ◌∷◌, ◌++◌, length, slice_get, Some, refl, arith, length-append, inl, inr}
-use Rattle.std.proofs.lemmas.Grind.{common_steps}
+use Rattle.std.proofs.Common.{◌≡◌, ◌<◌, ◌+◌, ◌⊎◌, ℕ, zero, suc, List, [], ◌∷◌, ◌++◌, length, slice_get, Some, refl, arith, length-append, inl, inr}
 use Rattle.jr_base.specs.declared.number.ClauseId.{ClauseId}
 use Rattle.jr_program.specs.UnitViews.{AreAlone}
 

@@ -1,5 +1,7 @@
 mod Alone
 pub mod ClauseEquations
+pub mod Crossing
+mod DueLists
 pub mod ExprEquations
 mod Numbers
 mod SmallUnit

@@ -1,9 +1,6 @@
 -- A small unit is well formed, and keeps what follows:
 --   class A { static int g; /*@ requires true; @*/ static void f(int x) { } public static void main(String[] a) { } }
-use Rattle.std.proofs.Common.{◌≡◌, ◌<◌, ◌≤◌, ◌==◌, ◌&&◌, cond, Bool, ℕ, zero, suc, List, [], ◌∷◌, length, slice_get, map, refl, sym, subst, Option, None, Some, pos, true, false, arith, lit<}
-use Rattle.jr_base.specs.declared.number.ClassId.{ClassId}
-use Rattle.jr_base.specs.declared.number.FieldId.{FieldId}
-use Rattle.jr_base.specs.declared.number.MethodId.{MethodId}
+use Rattle.std.proofs.Common.{◌≡◌, ◌≤◌, ◌==◌, ◌&&◌, cond, Bool, ℕ, zero, suc, List, [], ◌∷◌, length, slice_get, refl, sym, subst, None, Some, pos, true, false, arith, lit<}
 use Rattle.jr_base.specs.declared.number.ClauseId.{ClauseId}
 use Rattle.jr_base.specs.declared.value.Value.TheVariants as values
 use Rattle.jr_base.specs.declared.kind.SlotKind.{SlotKind}
@@ -19,7 +16,7 @@ use Rattle.jr_program.specs.declared.parts.TypedField.{TypedField}
 use Rattle.jr_program.specs.declared.parts.TypedMethod.{TypedMethod}
 use Rattle.jr_program.specs.declared.parts.UnitParts.{UnitParts}
 use Rattle.jr_program.specs.Programs.{Program, Class, Field, Method, Statement, Skip, class_at, field_at, method_at, clause_at}
-use Rattle.jr_program.specs.Clauses.{Clause, Spec, Truth, OfMethod}
+use Rattle.jr_program.specs.Clauses.{Clause, Truth, OfMethod}
 use Rattle.jr_program.specs.StatementViews.{view_stmt}
 use Rattle.jr_program.specs.ClauseViews.{view_expr}
 use Rattle.jr_program.specs.UnitViews.{program_of, FieldKeeps, MethodKeeps, PartsKeep}
@@ -62,7 +59,7 @@ small_parts first second condition = record {
   main = record { 0 = 1 };
 }
 
-abbrev method : List SlotKind → Statement → Method
+abbrev pub method : List SlotKind → Statement → Method
 method formals body = record {
   name = [];
   class = record { 0 = 0 };
@@ -76,12 +73,15 @@ method formals body = record {
   body = body;
 }
 
-abbrev program : Program
+abbrev pub requires_true : Clause
+requires_true = record { kind = Requires; owner = OfMethod (record { 0 = 0 }); mode = Java; is_static = true; place = record { line = 1; column = 30 }; states = Truth true ∷ [] }
+
+abbrev pub program : Program
 program = record {
   classes = record { name = []; extends_thread = false; implements_runnable = false; run = None; constructor = None } ∷ [];
   fields = record { class = record { 0 = 0 }; is_static = true; is_volatile = false; kind = Int; constant = values.Int (pos 0) } ∷ [];
   methods = method (Int ∷ []) Skip ∷ method [] Skip ∷ [];
-  clauses = record { kind = Requires; owner = OfMethod (record { 0 = 0 }); mode = Java; is_static = true; place = record { line = 1; column = 30 }; states = Truth true ∷ [] } ∷ [];
+  clauses = requires_true ∷ [];
   notes = [];
   texts = [];
   main = record { 0 = 1 };

@@ -4,7 +4,6 @@
 use Rattle.std.specs.Prelude.{◌&&◌, ◌||◌, ◌==◌, ◌+◌, ℕ, Bool, true, false, not, cond, List, [], ◌∷◌, ◌++◌}
 use Rattle.std.specs.Option.{option_map_or}
 use Rattle.jr_base.specs.declared.number.ClassId.{ClassId}
-use Rattle.jr_base.specs.declared.number.FieldId.{FieldId}
 use Rattle.jr_base.specs.declared.number.MethodId.{MethodId}
 use Rattle.jr_base.specs.declared.number.ClauseId.{ClauseId}
 use Rattle.jr_program.specs.declared.words.ClauseKind.{ClauseKind}

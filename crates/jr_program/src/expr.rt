@@ -166,55 +166,32 @@ impl TypedShape {
         ensures { IfOk result (λ copy. copy ≡ self.now) }
     {
         Ok(match self {
-            TypedShape::Int(n) => TypedShape::Int(*n),
-            TypedShape::Long(n) => TypedShape::Long(*n),
-            TypedShape::Truth(truth) => TypedShape::Truth(*truth),
-            TypedShape::Null => TypedShape::Null,
-            TypedShape::This => TypedShape::This,
-            TypedShape::ClassObject(class) => TypedShape::ClassObject(*class),
-            TypedShape::Local(number) => TypedShape::Local(*number),
-            TypedShape::StaticField(field) => TypedShape::StaticField(*field),
-            TypedShape::CallStatic(m, arguments) => TypedShape::CallStatic(
-                *m,
-                copy_exprs(arguments.as_slice(), alloc)?,
-            ),
-            TypedShape::NewObject(c, arguments) => TypedShape::NewObject(
-                *c,
-                copy_exprs(arguments.as_slice(), alloc)?,
-            ),
-            TypedShape::NewPlain => TypedShape::NewPlain,
-            TypedShape::NewThread(e) => TypedShape::NewThread(e.copy(alloc)?),
-            TypedShape::NewArray(element, e) => TypedShape::NewArray(*element, e.copy(alloc)?),
-            TypedShape::Suffixed(e, suffixes) => {
-                TypedShape::Suffixed(e.copy(alloc)?, copy_suffixes(suffixes.as_slice(), alloc)?)
+            Self::Int(n) => Self::Int(*n),
+            Self::Long(n) => Self::Long(*n),
+            Self::Truth(truth) => Self::Truth(*truth),
+            Self::Null => Self::Null,
+            Self::This => Self::This,
+            Self::ClassObject(class) => Self::ClassObject(*class),
+            Self::Local(number) => Self::Local(*number),
+            Self::StaticField(field) => Self::StaticField(*field),
+            Self::CallStatic(m, es) => Self::CallStatic(*m, copy_exprs(es.as_slice(), alloc)?),
+            Self::NewObject(c, es) => Self::NewObject(*c, copy_exprs(es.as_slice(), alloc)?),
+            Self::NewPlain => Self::NewPlain,
+            Self::NewThread(e) => Self::NewThread(e.copy(alloc)?),
+            Self::NewArray(element, e) => Self::NewArray(*element, e.copy(alloc)?),
+            Self::Suffixed(e, suffixes) => {
+                Self::Suffixed(e.copy(alloc)?, copy_suffixes(suffixes.as_slice(), alloc)?)
             }
-            TypedShape::Convert(to, e) => TypedShape::Convert(*to, e.copy(alloc)?),
-            TypedShape::Unary(op, e) => TypedShape::Unary(*op, e.copy(alloc)?),
-            TypedShape::Binary(op, a, b) => TypedShape::Binary(*op, a.copy(alloc)?, b.copy(alloc)?),
-            TypedShape::And(a, b) => TypedShape::And(a.copy(alloc)?, b.copy(alloc)?),
-            TypedShape::Or(a, b) => TypedShape::Or(a.copy(alloc)?, b.copy(alloc)?),
-            TypedShape::Choice(c, a, b) => TypedShape::Choice(
-                c.copy(alloc)?,
-                a.copy(alloc)?,
-                b.copy(alloc)?,
-            ),
-            TypedShape::Assign(v, e) => TypedShape::Assign(v.copy(alloc)?, e.copy(alloc)?),
-            TypedShape::Compound(op, narrows, v, e) => TypedShape::Compound(
-                *op,
-                *narrows,
-                v.copy(alloc)?,
-                e.copy(alloc)?,
-            ),
-            TypedShape::PrefixIncrement(w, v, by) => TypedShape::PrefixIncrement(
-                *w,
-                v.copy(alloc)?,
-                *by,
-            ),
-            TypedShape::PostfixIncrement(w, v, by) => TypedShape::PostfixIncrement(
-                *w,
-                v.copy(alloc)?,
-                *by,
-            ),
+            Self::Convert(to, e) => Self::Convert(*to, e.copy(alloc)?),
+            Self::Unary(op, e) => Self::Unary(*op, e.copy(alloc)?),
+            Self::Binary(op, a, b) => Self::Binary(*op, a.copy(alloc)?, b.copy(alloc)?),
+            Self::And(a, b) => Self::And(a.copy(alloc)?, b.copy(alloc)?),
+            Self::Or(a, b) => Self::Or(a.copy(alloc)?, b.copy(alloc)?),
+            Self::Choice(c, a, b) => Self::Choice(c.copy(alloc)?, a.copy(alloc)?, b.copy(alloc)?),
+            Self::Assign(v, e) => Self::Assign(v.copy(alloc)?, e.copy(alloc)?),
+            Self::Compound(op, n, v, e) => Self::Compound(*op, *n, v.copy(alloc)?, e.copy(alloc)?),
+            Self::PrefixIncrement(w, v, by) => Self::PrefixIncrement(*w, v.copy(alloc)?, *by),
+            Self::PostfixIncrement(w, v, by) => Self::PostfixIncrement(*w, v.copy(alloc)?, *by),
         })
     }
 }

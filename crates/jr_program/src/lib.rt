@@ -8,6 +8,7 @@ mod copied;
 pub mod due;
 pub mod expr;
 pub mod parts;
+pub mod sharing;
 pub mod stmt;
 #[cfg(test)]
 mod tests;

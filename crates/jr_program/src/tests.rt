@@ -6,6 +6,7 @@ use super::*;
 use jr_base::{ClassId, ClauseId, FieldId, Memory, MethodId, Position, SlotKind, Value};
 use sqlite_items::Items;
 use std::alloc::Global;
+use std::sync::Arc;
 
 /// `this` with so many `.g` behind it.
 fn chain(alloc: Global, links: u32) -> Result<TypedExpr, Memory> {
@@ -300,4 +301,22 @@ fn finds_what_is_due(rt: HostRuntime) {
         }
         Err(Memory) => assert!(rt; false, "no memory"),
     }
+}
+
+/// What threads may share.
+fn shared<T: Send + Sync>(value: T) -> T
+    ensures { result ≡ value }
+{
+    value
+}
+
+fn main_of_shared(alloc: Global) -> Result<MethodId, Memory> {
+    let unit = TypedUnit::new(alloc, small(alloc)?)?;
+    let unit = shared(Arc::new(alloc, unit)?);
+    Ok(unit.main())
+}
+
+#[test]
+fn is_shared_by_threads(rt: HostRuntime) {
+    assert!(rt; main_of_shared(rt.alloc()) == Ok(MethodId(1)));
 }
