@@ -1,6 +1,8 @@
 pub mod Bounds
 pub mod Calls
+pub mod Cells
 pub mod Choices
+pub mod Completions
 pub mod Counted
 mod DueLists
 pub mod Endings

@@ -1,4 +1,5 @@
 pub mod Along
+pub mod Cells
 pub mod Due
 pub mod Event
 pub mod Finish

@@ -6,6 +6,7 @@ ghost use Rattle.jr_base.specs.declared.action.Body.{Body};
 ghost use Rattle.jr_base.specs.declared.action.LeaveHow.{LeaveHow};
 ghost use Rattle.jr_base.specs.declared.action.LeaveHow.TheVariants.{Normal};
 ghost use Rattle.jr_base.specs.declared.value.Value.{Value};
+ghost use Rattle.jr_base.specs.declared.value.Cell.{Cell};
 ghost use Rattle.jr_base.specs.declared.number.MethodId.{MethodId};
 ghost use Rattle.jr_base.specs.declared.number.GuestNo.{GuestNo};
 ghost use Rattle.jr_base.specs.declared.number.ObjId.{ObjId};
@@ -25,8 +26,10 @@ ghost use Rattle.jr_meaning.specs.World.{World, is_live, start_world};
 ghost use Rattle.jr_meaning.specs.Machine.{Answers, owns, waits, after, wake};
 ghost use Rattle.jr_meaning.specs.Frames.{Frame, frames_of, needs_frame};
 ghost use Rattle.jr_program.specs.Slots.{class_count};
+ghost use Rattle.jr_program.specs.WellFormed.{WellFormed};
 ghost use Rattle.jr_meaning.specs.Limits.{past_limit, cell_count};
 ghost use Rattle.jr_meaning.specs.Heap.{Heap};
+ghost use Rattle.jr_meaning.specs.Cells.{has_cell};
 ghost use Rattle.jr_meaning.specs.Worth.{Setting};
 ghost use Rattle.jr_meaning.specs.Due.{due_of, looks_back, old_place, has_old_place};
 ghost use Rattle.jr_meaning.specs.Judge.{clause_value};
@@ -205,6 +208,13 @@ pub fn objects_are_few()
 pub fn cells_are_few()
     ensures { (program : Program) (budget : ℕ) (h : List Event) → IsLegal program budget h →
         cell_count program (world_after program h) ≤ max 1048576 (cell_count program (start_world program)) }
+{}
+
+/// The heap of a well-formed program has exactly the cells of the objects that were made: of a class object one for each
+/// static field, of another object one for each field, of a Thread one, and of an array one for each element.
+pub fn cells_belong_to_objects()
+    ensures { (program : Program) → WellFormed program → (budget : ℕ) (h : List Event) → IsLegal program budget h → (cell : Cell) →
+        is_some ((world_after program h).cells cell) ≡ has_cell program (world_after program h) cell }
 {}
 
 /// Where an object more would pass the limit of objects, that is the limit which is named.

@@ -1,13 +1,15 @@
 //! Laws of what a thread does, each a function with no work to do: its contract is the law.
 
-ghost use Rattle.std.specs.Prelude.{ℕ, ◌≡◌, ◌≢◌, ◌≤◌, ◌<◌, List, length, Option};
+ghost use Rattle.std.specs.Prelude.{ℕ, ◌≡◌, ◌≢◌, ◌≤◌, ◌<◌, List, length, Option, Some};
 ghost use Rattle.jr_base.specs.declared.number.MethodId.{MethodId};
 ghost use Rattle.jr_base.specs.declared.number.ObjId.{ObjId};
 ghost use Rattle.jr_base.specs.declared.action.Body.{Body};
 ghost use Rattle.jr_base.specs.declared.action.Reply.{Reply};
 ghost use Rattle.jr_base.specs.declared.value.Value.{Value};
-ghost use Rattle.jr_program.specs.Programs.{Program, Expr, Effect, Statement, Loop, DoLoop};
-ghost use Rattle.jr_meaning.specs.Next.{Tape, Variables, NoTurns, Ended, HasEnded, bounded_call, call, call_with, running, eval, perform_all, exec, one_turn, one_do_turn, thread_run, next};
+ghost use Rattle.jr_base.specs.declared.kind.SlotKind.{SlotKind};
+ghost use Rattle.jr_program.specs.Programs.{Program, Method, method_at, Expr, Effect, Statement, Loop, DoLoop};
+ghost use Rattle.jr_program.specs.WellFormed.{WellFormed, AlwaysEnds};
+ghost use Rattle.jr_meaning.specs.Next.{Tape, Variables, Got, NoTurns, Ended, Context, Completion, Falls, Returns, run_body, HasEnded, bounded_call, call, call_with, running, eval, perform_all, exec, one_turn, one_do_turn, thread_run, next};
 
 /// A thread is never out of turns: the bound on turns and calls is never met.
 pub fn threads_have_turns()
@@ -45,4 +47,19 @@ pub fn do_loops_unfold()
 /// A thread that wants nothing more has made its End.
 pub fn ends_are_made()
     ensures { (program : Program) (start : Option Body) (replies : List Reply) → next program start replies ≡ Ended → HasEnded program start replies }
+{}
+
+/// A statement that always ends never completes normally.
+pub fn ending_statements_never_fall_through()
+    ensures { (context : Context) (statement : Statement) → AlwaysEnds statement → (vs rest : Variables) (tape left : Tape) →
+        exec context statement vs tape ≢ Got Falls rest left }
+{}
+
+/// In a well-formed program the body of a method with a result completes by returning a value, or not at all: so the
+/// default that stands for its end is never given back.
+pub fn bodies_with_results_return_values()
+    ensures { (program : Program) → WellFormed program → (m : MethodId) (method : Method) (kind : SlotKind) →
+        method_at program m ≡ Some method → method.result ≡ Some kind →
+        (context : Context) (arguments : List Value) (tape : Tape) (way : Completion) (vs : Variables) (rest : Tape) →
+        run_body context (Some method) arguments tape ≡ Got way vs rest → (value : Value) × (way ≡ Returns (Some value)) }
 {}
