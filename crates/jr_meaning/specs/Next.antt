@@ -32,7 +32,7 @@ use Rattle.jr_base.specs.declared.kind.ObjectCall.{ObjectCall}
 use Rattle.jr_base.specs.declared.kind.ObjectCall.TheVariants.{Wait, Notify, NotifyAll, Start, Join}
 use Rattle.jr_arith.specs.declared.operator.Width.{Width}
 use Rattle.jr_arith.specs.declared.operator.Width.TheVariants as width
-use Rattle.jr_arith.specs.Operators.{number_of, number, truth_of, converted, unary_value, binary_value}
+use Rattle.jr_arith.specs.Operators.{number_of, number_in, number, truth_of, converted, unary_value, binary_value}
 use Rattle.jr_arith.specs.Arithmetic.{wrapped}
 use Rattle.jr_base.specs.Faults.{catches}
 use Rattle.jr_program.specs.Programs.{Program, Method, constructor_of, method_at}
@@ -170,7 +170,7 @@ narrowed false value = value
 
 -- what `++` and `--` write (JLS 15.14.2, 15.15.1)
 abbrev pub incremented : Width → Value → ℤ → Value
-incremented w old by = number w (wrapped w (number_of old +ℤ by))
+incremented w old by = number w (wrapped w (number_in w old +ℤ by))
 
 -- the value of a call that has one
 abbrev pub used : Option Value → Value

@@ -1,0 +1,19 @@
+pub mod Effects
+mod Example
+pub mod Exits
+pub mod Expressions
+pub mod Follow
+pub mod Locals
+pub mod Operands
+pub mod Places
+pub mod Regions
+pub mod RightEffects
+pub mod RightExpressions
+pub mod RightMethods
+pub mod RightStatements
+pub mod Shapes
+pub mod Statements
+pub mod Stops
+pub mod Suffixes
+pub mod ValueKinds
+pub mod Whole

@@ -1,0 +1,4 @@
+pub mod ExprCode
+pub mod ProgramCode
+pub mod StatementCode
+pub mod SuffixCode
