@@ -16,7 +16,7 @@ head_same k j a b e = cc
 some_same : {A : Type 0} (a b : A) → Some a ≡ Some b → a ≡ b
 some_same a b e = cc
 
-pushed_same : (js is a b : List SlotKind) → length js ≡ length is → kinds_pushed js a ≡ kinds_pushed is b → a ≡ b
+pub pushed_same : (js is a b : List SlotKind) → length js ≡ length is → kinds_pushed js a ≡ kinds_pushed is b → a ≡ b
 pushed_same [] [] a b n e = e
 pushed_same [] (i ∷ is) a b n e = absurd (omega arith)
 pushed_same (j ∷ js) [] a b n e = absurd (omega arith)

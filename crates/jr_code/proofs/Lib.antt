@@ -1,6 +1,17 @@
+pub mod Applied
+pub mod Calls
+pub mod Fields
+pub mod Flows
 pub mod Forced
+pub mod Stacks
+pub mod Growth
+pub mod Handlers
+pub mod Leaving
+pub mod Methods
+pub mod Paths
 pub mod Rows
 pub mod Safe
 pub mod Stopping
 pub mod Tables
 pub mod Unique
+pub mod WellFormed

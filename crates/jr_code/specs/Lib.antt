@@ -1,8 +1,13 @@
 pub mod Checked
 pub mod Coded
+pub mod Decoded
 pub mod Instructions
 pub mod Letters
 pub mod Machine
+pub mod Paths
 pub mod Resumed
 pub mod Sound
+pub mod Told
+pub mod Verifier
 pub mod Views
+pub mod WellFormed

@@ -18,6 +18,12 @@ ghost use Rattle.jr_code.specs.Letters.{LettersFit};
 ghost use Rattle.jr_code.specs.Sound.{Sound, SoundMove, ReplyFits, GoesOn, StartRight};
 ghost use Rattle.jr_code.specs.Resumed.{After, IsAsking, IsEnding, IsGoing, Answered};
 ghost use Rattle.jr_code.specs.declared.instr.Instr.{Instr};
+ghost use Rattle.jr_base.specs.declared.number.MethodId.{MethodId};
+ghost use Rattle.jr_code.specs.declared.code.Code.{Code as CodeOfLists};
+ghost use Rattle.jr_code.specs.Paths.{Reaches};
+ghost use Rattle.jr_code.specs.Views.{plain_of};
+ghost use Rattle.jr_code.specs.declared.code.MethodCode.{MethodCode as MethodOfLists};
+ghost use Rattle.jr_code.specs.WellFormed.{LocalsBegin, WellFormedCode, BadAt};
 
 /// Code does one thing next at most.
 pub fn code_does_one_thing()
@@ -75,4 +81,24 @@ pub fn operators_have_rows()
     ensures between { (t : Tables) (arg : ℕ) (o : Binary) → plain t (record { code = row_of_binary o; arg = arg }) ≡ TwoOperands o }
     ensures before { (t : Tables) (arg : ℕ) (o : Unary) → plain t (record { code = row_of_unary o; arg = arg }) ≡ OneOperand o }
     ensures converts { (t : Tables) (arg : ℕ) (w : Width) → plain t (record { code = row_of_conversion w; arg = arg }) ≡ ConvertTo w }
+{}
+
+/// Code that keeps the rules is right in the sense of the laws above, and no rule is broken in it: what [`check`] says
+/// of code that it refuses cannot be said of code that keeps them.
+///
+/// [`check`]: crate::checking::check
+pub fn well_formed_code_breaks_no_rule()
+    ensures right { (code : CodeOfLists) → WellFormedCode code → CodeRight (plain_of code) }
+    ensures unbroken { (code : CodeOfLists) → WellFormedCode code → (m : MethodId) (at : ℕ) → BadAt code m at → ⊥ }
+    ensures forced { (code : Code) (c : MethodCode) (right : MethodRight code c) (at : ℕ) (ks : List SlotKind) →
+        Reaches code c at ks → slice_get right.shapes at ≡ Some (Some ks) }
+{}
+
+/// Right code whose methods' locals begin with `this` and the formals keeps the rules, and so [`check`] takes it where
+/// there is memory.
+///
+/// [`check`]: crate::checking::check
+pub fn right_code_is_well_formed()
+    ensures { (code : CodeOfLists) → ((at : ℕ) (m : MethodOfLists) → slice_get code.methods.items at ≡ Some m → LocalsBegin m) →
+        CodeRight (plain_of code) → WellFormedCode code }
 {}

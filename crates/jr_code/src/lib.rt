@@ -4,9 +4,19 @@
 //! does, `Checked.antt` the rules.
 #![tactic(auto)]
 
+pub mod checking;
 pub mod code;
+mod effects;
 pub mod instr;
+pub mod instruction;
+mod kinds;
 pub mod laws;
+mod shapes;
+#[cfg(test)]
+mod tests;
+mod verifier;
 
+pub use checking::{CheckFail, Checked, check};
 pub use code::{AssertCode, Code, FieldCode, MethodCode, Region, RegionKind};
 pub use instr::Instr;
+pub use instruction::{Flow, Instruction};
