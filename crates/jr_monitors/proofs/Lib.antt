@@ -1,0 +1,12 @@
+pub mod Depths
+pub mod Locks
+pub mod Notices
+pub mod Numbers
+pub mod Objects
+pub mod Owning
+pub mod Rosters
+pub mod Seen
+pub mod Steps
+pub mod Stuck
+pub mod WaitSets
+pub mod Worlds
