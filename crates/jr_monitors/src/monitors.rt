@@ -21,6 +21,9 @@ use jr_base::{Action, GuestNo, Locks, Memory, ObjId, Reply};
 use std::alloc::Global;
 use std::marker::Model;
 
+#[cfg(test)]
+mod tests;
+
 /// The monitors of a run, their wait sets, and the threads that were started (JLS 14.19, 17.1, 17.2).
 ///
 /// It stands for the world of the definitions as far as monitors and threads go (`StandsFor`): an action is ready, is
