@@ -1,4 +1,5 @@
 pub mod Effects
+pub mod Emits
 mod Example
 pub mod Exits
 pub mod Expressions

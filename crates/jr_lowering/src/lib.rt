@@ -2,9 +2,12 @@
 //! start that fits it and every list of replies, what the code does next is what the program does next, and the code
 //! keeps the rules of stack code. The definitions stand in `specs/`: `ExprCode.antt`, `StatementCode.antt` and
 //! `ProgramCode.antt` have the code as a function of its place. `size` and `statement_size` compute how many instructions
-//! each piece has, which an emitting pass has to know before it names a place.
+//! each piece has, which the emitting pass has to know before it names a place.
 #![tactic(auto)]
 
+pub mod access;
 pub mod laws;
+pub mod op;
+pub mod pieces;
 pub mod size;
 pub mod statement_size;
