@@ -11,6 +11,8 @@ mod outcome;
 mod range;
 mod scene;
 mod snapshots;
+#[cfg(test)]
+mod tests;
 
 pub use clause::{value, value_over};
 pub use heaps::Heaps;
