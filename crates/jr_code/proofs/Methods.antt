@@ -11,10 +11,12 @@ use Rattle.jr_code.specs.declared.code.Region.{Region as RegionOfLists}
 use Rattle.jr_code.specs.declared.code.RegionKind.{RegionKind as KindOfRegion}
 use Rattle.jr_code.specs.declared.code.RegionKind.TheVariants.{Catch, Exit}
 use Rattle.jr_code.specs.Instructions.{Region, MethodCode}
-use Rattle.jr_code.specs.Checked.{this_kind, kinds_of_locals, NoneCaught, RightKind, RightRegion, RightRegions}
+use Rattle.jr_code.specs.Checked.{this_kind, kinds_of_locals, NoneCaught, RightKind, RightRegion, RightRegions, MethodRight}
 use Rattle.jr_code.specs.Views.{plain_of, region_of, kind_of_region}
 use Rattle.jr_code.specs.WellFormed.{LocalsBegin, WellFormedMethod, plain_method, BreaksRule, Rule, NoInstruction, ExitOf}
-use Rattle.jr_code.specs.Verifier.{Extends, SettledBelow, CatchDone, ExitsRight, ExitWrong}
+use Rattle.jr_code.specs.Depth.{IsDepth}
+use Rattle.jr_code.specs.Verifier.{OnPaths, Extends, SettledBelow, CatchDone, ExitsRight, ExitWrong, IsDeepest}
+use Rattle.jr_code.proofs.Depths.{depth_found}
 
 pub nothing_there : (n at : ℕ) (ks : List SlotKind) → slice_get (replicate n None) at ≡ Some (Some ks) → ⊥
 nothing_there zero at ks e = absurd (cc)
@@ -51,13 +53,13 @@ kind_right code m shapes n l (Catch fault) b e inside k exits done =
     done (region_of l) fault l.target (slice_get-map region_of m.regions.items n ∙ ap (option_map region_of) e) (ap (λ k. kind_of_region k l.target) k)
 kind_right code m shapes n l (Exit x) b e inside k exits done = ap (λ ls. slice_get ls x) (locals_are code m b) ∙ exits n l x inside e k
 
-pub well_formed : (code : CodeOfLists) (m : MethodOfLists) (first shapes : List (Option (List SlotKind))) → LocalsBegin m → NoneCaught m.formals.items →
+method_right : (code : CodeOfLists) (m : MethodOfLists) (first shapes : List (Option (List SlotKind))) → LocalsBegin m → NoneCaught m.formals.items →
     (m.result ≡ Some CaughtKind → ⊥) → ExitsRight m (length m.regions.items) → length first ≡ length m.instrs.items → slice_get first 0 ≡ Some (Some []) →
     Extends (plain_of code) (plain_method code m) first shapes 0 → SettledBelow (plain_of code) (plain_method code m) shapes (length m.instrs.items) →
-    ((k : ℕ) → k < length m.regions.items → CatchDone (plain_method code m) shapes k) → WellFormedMethod code m
-well_formed code m first shapes b formals result exits size begins x settled done = record {
-  locals = b;
-  right = record {
+    ((k : ℕ) → k < length m.regions.items → CatchDone (plain_method code m) shapes k) →
+    (right : MethodRight (plain_of code) (plain_method code m)) × (right.shapes ≡ shapes)
+method_right code m first shapes b formals result exits size begins x settled done = (
+  record {
     shapes = shapes;
     begins = x.grown 0 [] begins;
     each = λ at ks here.
@@ -71,8 +73,22 @@ well_formed code m first shapes b formals result exits size begins x settled don
         subst (RightRegion (plain_method code m) shapes) l.2 (kind_right code m shapes n l.0 l.0.kind b l.1 inside refl exits (done n inside)));
     formals = formals;
     result = λ k e c. result (e ∙ ap Some c);
-  };
-}
+  },
+  refl,
+)
+
+-- the method keeps the rules, and needs the room that was found
+pub well_formed : (code : CodeOfLists) (m : MethodOfLists) (first shapes : List (Option (List SlotKind))) (depth : ℕ) → LocalsBegin m → NoneCaught m.formals.items →
+    (m.result ≡ Some CaughtKind → ⊥) → ExitsRight m (length m.regions.items) → length first ≡ length m.instrs.items → slice_get first 0 ≡ Some (Some []) →
+    Extends (plain_of code) (plain_method code m) first shapes 0 → SettledBelow (plain_of code) (plain_method code m) shapes (length m.instrs.items) →
+    ((k : ℕ) → k < length m.regions.items → CatchDone (plain_method code m) shapes k) → IsDeepest shapes depth →
+    WellFormedMethod code m × IsDepth (plain_of code) (plain_method code m) depth
+well_formed code m first shapes depth b formals result exits size begins x settled done deepest =
+    let r = method_right code m first shapes b formals result exits size begins x settled done in (
+      record { locals = b; right = r.0 },
+      depth_found (plain_of code) (plain_method code m) r.0 depth (subst (OnPaths (plain_of code) (plain_method code m)) (sym r.1) x.on_paths)
+          (subst (λ s. IsDeepest s depth) (sym r.1) deepest),
+    )
 
 pub begins_static : (m : MethodOfLists) (r : Bool) → m.is_static ≡ true →
     (r ≡ true → m.locals.items ≡ m.formals.items ++ drop (length m.formals.items) m.locals.items) × ((rest : List SlotKind) → m.locals.items ≡ m.formals.items ++ rest → r ≡ true) →

@@ -1,6 +1,7 @@
 pub mod Checked
 pub mod Coded
 pub mod Decoded
+pub mod Depth
 pub mod Instructions
 pub mod Letters
 pub mod Machine

@@ -1,5 +1,5 @@
 -- Operands and locals are of the kinds that checked code says.
-use Rattle.std.specs.Prelude.{◌≡◌, ◌+◌, List, [], ◌∷◌, Option, Some, None, slice_get}
+use Rattle.std.specs.Prelude.{◌≡◌, ◌+◌, List, [], ◌∷◌, ◌++◌, Option, Some, None, slice_get}
 use Rattle.jr_base.specs.declared.action.Body.{Body}
 use Rattle.jr_base.specs.declared.action.Reply.{Reply}
 use Rattle.jr_base.specs.declared.action.Reply.TheVariants as replies
@@ -9,6 +9,7 @@ use Rattle.jr_base.specs.Content.{Content, Holds, Caught}
 use Rattle.jr_code.specs.Instructions.{Instruction, GetField, GetStatic, GetElement, ArrayLength, Region, MethodCode, Code}
 use Rattle.jr_code.specs.Machine.{method_code_at, instructions_of, StackFrame, State, Runs, Throws, Makes, Over, Move, Goes, Asks, Ends}
 use Rattle.jr_arith.specs.Kinds.{kind_of_element}
+use Rattle.jr_code.specs.Paths.{Reaches}
 use Rattle.jr_code.specs.Checked.{kind_of_value, kinds_of_locals, kinds_with, RightRegions, MethodRight}
 
 abbrev pub IsOf : SlotKind → Content → Type 0
@@ -21,7 +22,7 @@ AreOf [] (c ∷ cs) = ⊥
 AreOf (k ∷ ks) [] = ⊥
 AreOf (k ∷ ks) (c ∷ cs) = IsOf k c × AreOf ks cs
 
--- a frame that runs, and one that throws
+-- a frame that runs, and one that throws, at a place to which a path brings these kinds
 pub record RunsAt (code : Code) (f : StackFrame) : Type 0 where
   pub c : MethodCode
   pub is_method : method_code_at code f.method ≡ Some c
@@ -29,6 +30,7 @@ pub record RunsAt (code : Code) (f : StackFrame) : Type 0 where
   pub locals : AreOf (kinds_of_locals c) f.locals
   pub kinds : List SlotKind
   pub shape : slice_get right.shapes f.at ≡ Some (Some kinds)
+  pub path : Reaches code c f.at kinds
   pub stack : AreOf kinds f.stack
 
 pub record ThrowsAt (code : Code) (rest : List Region) (f : StackFrame) : Type 0 where
@@ -38,7 +40,10 @@ pub record ThrowsAt (code : Code) (rest : List Region) (f : StackFrame) : Type 0
   pub locals : AreOf (kinds_of_locals c) f.locals
   pub kinds : List SlotKind
   pub shape : slice_get right.shapes f.at ≡ Some (Some kinds)
+  pub path : Reaches code c f.at kinds
   pub regions : RightRegions c right.shapes rest
+  pub passed : List Region
+  pub split : c.regions ≡ passed ++ rest
 
 -- a frame that waits at a call with this result
 pub record WaitsAt (code : Code) (result : Option SlotKind) (f : StackFrame) : Type 0 where
@@ -48,8 +53,10 @@ pub record WaitsAt (code : Code) (result : Option SlotKind) (f : StackFrame) : T
   pub locals : AreOf (kinds_of_locals c) f.locals
   pub here : List SlotKind
   pub shape : slice_get right.shapes f.at ≡ Some (Some here)
+  pub path : Reaches code c f.at here
   pub kinds : List SlotKind
   pub goes : slice_get right.shapes (f.at + 1) ≡ Some (Some (kinds_with result kinds))
+  pub onward : Reaches code c (f.at + 1) (kinds_with result kinds)
   pub stack : AreOf kinds f.stack
 
 abbrev pub Waiting : Code → Option SlotKind → List StackFrame → Type 0

@@ -160,6 +160,11 @@ pub record Visited (code : Code) (c : MethodCode) (old : List (Option (List Slot
 abbrev pub SettledBelow : Code → MethodCode → List (Option (List SlotKind)) → ℕ → Type 0
 SettledBelow code c shapes from = (at : ℕ) → at < from → SettledAt code c shapes at
 
+-- so many operands stand at some place, and at none more
+pub record IsDeepest (shapes : List (Option (List SlotKind))) (depth : ℕ) : Type 0 where
+  pub most : (at : ℕ) (ks : List SlotKind) → slice_get shapes at ≡ Some (Some ks) → length ks ≤ depth
+  pub some : (at : ℕ) × (ks : List SlotKind) × (slice_get shapes at ≡ Some (Some ks)) × (length ks ≡ depth)
+
 -- no path is known to reach a place from one to another
 abbrev pub Untouched : List (Option (List SlotKind)) → ℕ → ℕ → Type 0
 Untouched shapes from to = (at : ℕ) (ks : List SlotKind) → from ≤ at → at < to → slice_get shapes at ≡ Some (Some ks) → ⊥

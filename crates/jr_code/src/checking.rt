@@ -2,6 +2,7 @@
 
 ghost use Rattle.std.specs.Prelude.{◌≡◌, ◌≢◌, ◌<◌, ◌↔◌, ℕ, [], IsTrue, IfOk, IfErr, OnOk, MatchOption, Some, length, slice_get, vec_len};
 ghost use Rattle.jr_base.specs.declared.kind.SlotKind.TheVariants.{Ref as Reference, Caught};
+ghost use Rattle.jr_code.specs.Depth.{IsDepth, IsDepthOf};
 ghost use Rattle.jr_code.specs.Verifier.{OnPaths, ExitsRight, ExitWrong, Tells};
 ghost use Rattle.jr_code.specs.Told.{Told, fail_of};
 ghost use Rattle.jr_code.specs.Views.{plain_of};
@@ -9,10 +10,10 @@ ghost use Rattle.jr_code.specs.WellFormed.{LocalsBegin, WellFormedMethod, WellFo
 
 use crate::code::{Code, MethodCode, RegionKind};
 use crate::kinds::{Kinds, are_values};
-use crate::shapes::{Stop, no_shapes};
+use crate::shapes::{Stop, deepest, no_shapes};
 use crate::verifier::{reach, settle};
 use jr_base::{MethodId, SlotKind};
-use std::alloc::Global;
+use std::alloc::{AllocError, Global};
 use std::marker::Model;
 
 // Whether the locals begin with `this`, where the method isn't static, and then its formals.
@@ -75,9 +76,10 @@ fn gives_caught(method: &MethodCode) -> bool
     }
 }
 
-// Whether a method keeps the rules.
-fn check_method(alloc: Global, code: &Code, method: &MethodCode) -> Result<(), Stop>
+// How many operands a method needs room for, if it keeps the rules.
+fn check_method(alloc: Global, code: &Code, method: &MethodCode) -> Result<u32, Stop>
     ensures ok { OnOk result (WellFormedMethod code.now method.now) }
+    ensures depth { IfOk result (IsDepth (plain_of code.now) (plain_method code.now method.now)) }
     ensures err { IfErr result (Tells code.now method.now) }
 {
     if !locals_begin(method) {
@@ -98,7 +100,11 @@ fn check_method(alloc: Global, code: &Code, method: &MethodCode) -> Result<(), S
     }
     let mut shapes = first_shapes(alloc, code, method)?;
     settle(code, method, &mut shapes)?;
-    Ok(())
+    let depth = deepest(&shapes);
+    if depth > u32::MAX as usize {
+        return Err(Stop::Memory);
+    }
+    Ok(depth as u32)
 }
 
 /// Why code isn't taken.
@@ -107,24 +113,27 @@ pub enum CheckFail {
     /// A rule is broken at that instruction of that method, or at its place 0 where the rule is one on its formals, its
     /// result, its locals or its regions.
     Bad { method: MethodId, at: u32 },
+    /// There was no memory, or a call of a method would need room for more than `u32::MAX` operands.
     Memory,
 }
 
-/// Code that keeps the rules.
+/// Code that keeps the rules, with the room that its calls need.
 #[derive(Drop)]
 pub struct Checked {
     code: Code,
+    depths: Vec<u32>,
 }
 
 impl Model for Checked {
     ghost use Rattle.jr_code.specs.declared.code.Code.{Code};
+    ghost use Rattle.jr_code.specs.Depth.{AreDepths};
     ghost use Rattle.jr_code.specs.WellFormed.{WellFormedCode};
 
     ghost Value = { Code };
 
     ghost view = { λ c. c.code };
 
-    ghost invariant = { λ c. WellFormedCode c.code };
+    ghost invariant = { λ c. WellFormedCode c.code × AreDepths c.code c.depths.items };
 }
 
 impl Checked {
@@ -134,6 +143,26 @@ impl Checked {
         ensures well_formed { WellFormedCode result.now }
     {
         &self.code
+    }
+
+    /// How many operands a call of that method needs room for: whatever it does, no more stand on its stack at once. Takes
+    /// no memory.
+    pub fn depth(&self, method: MethodId) -> u32
+        requires { method.0 < length self.now.methods.items }
+        ensures { IsDepthOf (plain_of self.now) method result }
+    {
+        self.depths[method.0 as usize]
+    }
+}
+
+impl From<AllocError> for CheckFail {
+    ghost use Rattle.std.specs.Prelude.{◌≡◌};
+    ghost use Rattle.jr_code.specs.declared.checking.CheckFail.TheVariants as fails;
+
+    ghost from_gives = { λ _ e. e ≡ fails.Memory };
+
+    fn from(_e: AllocError) -> CheckFail {
+        CheckFail::Memory
     }
 }
 
@@ -151,10 +180,12 @@ pub fn check(alloc: Global, code: Code) -> Result<Checked, CheckFail>
     ensures checked { IfOk result (λ checked. checked ≡ code) }
     ensures bad { IfErr result (Told code) }
 {
+    let mut depths = Vec::new(alloc);
     for number in 0..code.methods.len() {
-        if let Err(stop) = check_method(alloc, &code, code.methods.get(number)) {
-            return Err(fail(MethodId(number), stop));
+        match check_method(alloc, &code, code.methods.get(number)) {
+            Ok(depth) => depths.push(depth).map_err(AllocError::from)?,
+            Err(stop) => return Err(fail(MethodId(number), stop)),
         }
     }
-    Ok(Checked { code })
+    Ok(Checked { code, depths })
 }

@@ -1,6 +1,6 @@
 //! The kinds of the operands at a place.
 
-ghost use Rattle.std.specs.Prelude.{◌≡◌, ◌↔◌, ◌∷◌, [], IfOk, OnOk, MatchOption, IsTrue};
+ghost use Rattle.std.specs.Prelude.{◌≡◌, ◌↔◌, ◌∷◌, [], IfOk, OnOk, MatchOption, IsTrue, length};
 ghost use Rattle.jr_code.specs.Checked.{NoneCaught};
 ghost use Rattle.jr_code.specs.Verifier.{Changes, HasChanged, HasTakenValues};
 
@@ -50,6 +50,12 @@ impl Kinds {
     {
         let kinds = Vec::from_slice(*self.kinds.allocator(), self.kinds.as_slice())?;
         Ok(Kinds { kinds })
+    }
+
+    pub(crate) fn len(&self) -> usize
+        ensures { result ≡ length self.now }
+    {
+        self.kinds.len()
     }
 
     pub(crate) fn is_same(&self, other: &Kinds) -> bool

@@ -1,6 +1,6 @@
 //! Laws of the definitions, each a function with no work to do: its contract is the law.
 
-ghost use Rattle.std.specs.Prelude.{◌≡◌, ◌≢◌, ◌+◌, ℕ, Some, slice_get, List, ◌++◌, ◌∷◌, [], Option};
+ghost use Rattle.std.specs.Prelude.{◌≡◌, ◌≢◌, ◌+◌, ◌≤◌, ℕ, length, Some, slice_get, List, ◌++◌, ◌∷◌, [], Option};
 ghost use Rattle.jr_base.specs.Deed.{Deed};
 ghost use Rattle.jr_base.specs.Threads.{Next, Wants, Ended};
 ghost use Rattle.jr_base.specs.declared.action.Body.{Body};
@@ -11,11 +11,12 @@ ghost use Rattle.jr_arith.specs.declared.operator.Unary.{Unary};
 ghost use Rattle.jr_arith.specs.declared.operator.Binary.{Binary};
 ghost use Rattle.jr_code.specs.Instructions.{Code, Instruction, OneOperand, TwoOperands, ConvertTo, Unknown, MethodCode};
 ghost use Rattle.jr_code.specs.Coded.{Tables, Grows, plain, row_of_binary, row_of_unary, row_of_conversion};
-ghost use Rattle.jr_code.specs.Machine.{State, start_state, step, DoesNext};
+ghost use Rattle.jr_code.specs.Depth.{IsDepthOf};
+ghost use Rattle.jr_code.specs.Machine.{StackFrame, State, start_state, step, DoesNext};
 ghost use Rattle.jr_ops.specs.Instructions.{Row, Letters, instruction_rows, kinds_taken, kinds_given};
 ghost use Rattle.jr_code.specs.Checked.{CodeRight, MethodRight, Effect, GoesTo, kinds_pushed};
 ghost use Rattle.jr_code.specs.Letters.{LettersFit};
-ghost use Rattle.jr_code.specs.Sound.{Sound, SoundMove, ReplyFits, GoesOn, StartRight};
+ghost use Rattle.jr_code.specs.Sound.{RunsAt, WaitsAt, Sound, SoundMove, ReplyFits, GoesOn, StartRight};
 ghost use Rattle.jr_code.specs.Resumed.{After, IsAsking, IsEnding, IsGoing, Answered};
 ghost use Rattle.jr_code.specs.declared.instr.Instr.{Instr};
 ghost use Rattle.jr_base.specs.declared.number.MethodId.{MethodId};
@@ -55,6 +56,13 @@ pub fn checked_code_begins()
 /// Checked code never meets a missing operand, an operand of a wrong kind, or an end of its instructions.
 pub fn checked_code_goes_on()
     ensures { (code : Code) → CodeRight code → (s : State) → Sound code s → GoesOn s → SoundMove code (ReplyFits code s) (step code s) }
+{}
+
+/// The operands of a frame that runs checked code, or waits there at a call, find room in the depth of its method.
+pub fn operands_find_room()
+    ensures runs { (code : Code) (f : StackFrame) (depth : ℕ) → RunsAt code f → IsDepthOf code f.method depth → length f.stack ≤ depth }
+    ensures waits { (code : Code) (r : Option SlotKind) (f : StackFrame) (depth : ℕ) →
+        WaitsAt code r f → IsDepthOf code f.method depth → length f.stack ≤ depth }
 {}
 
 /// Kinds that are found along a path stand in every list of kinds with which the method is right.

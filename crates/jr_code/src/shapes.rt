@@ -1,7 +1,7 @@
 //! The kinds of the operands at each place of a method, so far as paths are known to bring them.
 
 ghost use Rattle.std.specs.Prelude.{◌≡◌, ◌<◌, [], IfOk, length, replicate, None, Some, slice_get, vec_len};
-ghost use Rattle.jr_code.specs.Verifier.{HasArrived};
+ghost use Rattle.jr_code.specs.Verifier.{HasArrived, IsDeepest};
 
 use crate::kinds::Kinds;
 use std::alloc::{AllocError, Global};
@@ -57,4 +57,18 @@ pub(crate) fn arrive(shapes: &mut Vec<Option<Kinds>>, at: u32, kinds: Kinds) -> 
     }
     shapes[at as usize] = Some(kinds);
     Arrival::First
+}
+
+/// How many operands stand at the place that has most of them.
+pub(crate) fn deepest(shapes: &Vec<Option<Kinds>>) -> usize
+    requires { slice_get shapes.now.items 0 ≡ Some (Some []) }
+    ensures { IsDeepest shapes.now.items result }
+{
+    let mut depth = 0;
+    for shape in shapes {
+        if let Some(kinds) = shape {
+            depth = depth.max(kinds.len());
+        }
+    }
+    depth
 }
