@@ -15,8 +15,8 @@ use Rattle.jr_code.specs.Coded.{plain}
 use Rattle.jr_code.specs.Paths.{HandledAt, Reaches, Catches}
 use Rattle.jr_code.specs.Views.{tables_of, plain_of, region_of, kind_of_region}
 use Rattle.jr_code.specs.WellFormed.{plain_method, BreaksRule, Rule, Handler}
-use Rattle.jr_code.specs.Verifier.{OnPaths, CatchDone, Caught, Woken, Untouched, IsTouched, Extends, SettledBelow, Pending, rounds, lower_of}
-use Rattle.jr_code.proofs.Growth.{from_lower, then_extends, settled_stays}
+use Rattle.jr_code.specs.Verifier.{OnPaths, CatchDone, Caught, Woken, Untouched, IsTouched, Extends, SettledBelow, SweptTo, Pending, rounds, lower_of}
+use Rattle.jr_code.proofs.Growth.{unchanged, from_lower, then_extends, settled_stays}
 use Rattle.jr_code.proofs.Leaving.{before_or_there, at_most_or_above}
 
 region_at : (code : CodeOfLists) (m : MethodOfLists) (n : ℕ) (r : RegionOfLists) → slice_get m.regions.items n ≡ Some r → slice_get (plain_method code m).regions n ≡ Some (region_of r)
@@ -135,3 +135,21 @@ module _ (code : Code) (c : MethodCode) where
       let one = h.less in
       let two = y.fewer in
       subst (λ b. rounds new (Some low) < rounds middle b) (sym e) (omega arith)
+
+  -- what is settled before a place stays so before a handler that is reached first now
+  pub settled_awake : (old new : List (Option (List SlotKind))) (at low : ℕ) → SettledBelow code c old at → at ≤ length old → Woken code c old new low →
+      SweptTo code c old new 0 (min at low)
+  settled_awake old new at low s h w =
+      let inside = w.inside in
+      record {
+        extends = from_lower code c old new low 0 (omega arith) w.extends;
+        settled = λ p l. settled_stays code c old new p low w.extends (omega arith) (s p (omega arith));
+        reached = omega arith;
+        inside = omega arith;
+      }
+
+  pub settled_asleep : (old new : List (Option (List SlotKind))) (at : ℕ) → SettledBelow code c old at → at ≤ length old → OnPaths code c old → new ≡ old →
+      SweptTo code c old new 0 at
+  settled_asleep old new at s h sound e =
+      subst (λ new. SweptTo code c old new 0 at) (sym e)
+      (record { extends = unchanged code c old 0 sound; settled = s; reached = omega arith; inside = h })

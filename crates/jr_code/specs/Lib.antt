@@ -2,6 +2,7 @@ pub mod Checked
 pub mod Coded
 pub mod Decoded
 pub mod Depth
+pub mod Handlers
 pub mod Instructions
 pub mod Letters
 pub mod Machine

@@ -160,6 +160,13 @@ pub record Visited (code : Code) (c : MethodCode) (old : List (Option (List Slot
 abbrev pub SettledBelow : Code → MethodCode → List (Option (List SlotKind)) → ℕ → Type 0
 SettledBelow code c shapes from = (at : ℕ) → at < from → SettledAt code c shapes at
 
+-- instructions are settled up to a place, which is no earlier than that end
+pub record SweptTo (code : Code) (c : MethodCode) (old new : List (Option (List SlotKind))) (end at : ℕ) : Type 0 where
+  pub extends : Extends code c old new 0
+  pub settled : SettledBelow code c new at
+  pub reached : end ≤ at
+  pub inside : at ≤ length old
+
 -- so many operands stand at some place, and at none more
 pub record IsDeepest (shapes : List (Option (List SlotKind))) (depth : ℕ) : Type 0 where
   pub most : (at : ℕ) (ks : List SlotKind) → slice_get shapes at ≡ Some (Some ks) → length ks ≤ depth

@@ -7,6 +7,7 @@
 pub mod checking;
 pub mod code;
 mod effects;
+mod handler;
 pub mod instr;
 pub mod instruction;
 mod kinds;

@@ -1,15 +1,17 @@
 //! Follows the paths of a method, and finds the kinds that they bring to each instruction.
 
-ghost use Rattle.std.specs.Prelude.{◌≡◌, ◌<◌, ◌≤◌, IfOk, IfErr, OnOk, MatchOption, ℕ, length, vec_len, slice_get, Some};
+ghost use Rattle.std.specs.Prelude.{◌≡◌, ◌<◌, ◌≤◌, IfOk, IfErr, OnOk, MatchOption, ℕ, length, min, vec_len, slice_get, Some};
 ghost use Rattle.jr_code.specs.declared.instruction.Flow.TheVariants as flows;
 ghost use Rattle.jr_code.specs.Decoded.{meaning};
 ghost use Rattle.jr_code.specs.Paths.{Reaches};
-ghost use Rattle.jr_code.specs.Verifier.{OnPaths, CatchDone, Caught, Extends, lower_of, Reached, LeavesBy, Leads, SettledBelow, Untouched, IsTouched, Visited, Woken, Tells};
+ghost use Rattle.jr_code.specs.Verifier.{OnPaths, CatchDone, Caught, Extends, lower_of, Reached, LeavesBy, Leads, SettledBelow, SweptTo, Untouched, IsTouched, Visited, Woken, Tells};
+ghost use Rattle.jr_code.specs.Handlers.{AreNumbers};
 ghost use Rattle.jr_code.specs.Views.{tables_of, plain_of};
 ghost use Rattle.jr_code.specs.WellFormed.{LocalsBegin, plain_method};
 
 use crate::code::{Code, MethodCode, RegionKind};
 use crate::effects::apply;
+use crate::handler::{Handler, handlers_of};
 use crate::instruction::Flow;
 use crate::kinds::Kinds;
 use crate::shapes::{Arrival, Stop, arrive};
@@ -221,11 +223,60 @@ fn visit(
     go_on(code, method, shapes, at, flow, kinds)
 }
 
-// Settles the instructions from a place on, those before it being settled.
+// Settles the instructions from a place on up to another, those before it being settled, and answers where it stopped.
+fn sweep_to(
+    code: &Code,
+    method: &MethodCode,
+    shapes: &mut Vec<Option<Kinds>>,
+    start: u32,
+    end: u32,
+) -> Result<u32, Stop>
+    requires locals { LocalsBegin method.now }
+    requires sound { OnPaths (plain_of code.now) (plain_method code.now method.now) shapes.old.items }
+    requires size { length shapes.old.items ≡ length method.now.instrs.items }
+    requires settled { SettledBelow (plain_of code.now) (plain_method code.now method.now) shapes.old.items start }
+    requires inside { start ≤ length method.now.instrs.items }
+    ensures ok { IfOk result (SweptTo (plain_of code.now) (plain_method code.now method.now) shapes.old.items shapes.new.items (min end (length method.now.instrs.items))) }
+    ensures err { IfErr result (Tells code.now method.now) }
+{
+    let end = end.min(method.instrs.len());
+    let mut at = start;
+    while at < end {
+        at = visit(code, method, shapes, at)?;
+    }
+    Ok(at)
+}
+
+// Lets an exception come to the handler of a region that a path reaches, the instructions before a place being settled,
+// and answers before which place they are then.
+fn wake(
+    code: &Code,
+    method: &MethodCode,
+    shapes: &mut Vec<Option<Kinds>>,
+    number: u32,
+    at: u32,
+) -> Result<u32, Stop>
+    requires sound { OnPaths (plain_of code.now) (plain_method code.now method.now) shapes.old.items }
+    requires size { length shapes.old.items ≡ length method.now.instrs.items }
+    requires settled { SettledBelow (plain_of code.now) (plain_method code.now method.now) shapes.old.items at }
+    requires inside { at ≤ length method.now.instrs.items }
+    requires region { number < length method.now.regions.items }
+    ensures ok { IfOk result (SweptTo (plain_of code.now) (plain_method code.now method.now) shapes.old.items shapes.new.items 0) }
+    ensures err { IfErr result (Tells code.now method.now) }
+{
+    match catch(code, method, shapes, number)? {
+        Some(place) => Ok(at.min(place)),
+        None => Ok(at),
+    }
+}
+
+// Settles the instructions from a place on, those before it being settled. Where it comes to a handler, exceptions come
+// there too.
 fn sweep(
     code: &Code,
     method: &MethodCode,
     shapes: &mut Vec<Option<Kinds>>,
+    handlers: &[Handler],
     start: u32,
 ) -> Result<(), Stop>
     requires locals { LocalsBegin method.now }
@@ -233,14 +284,17 @@ fn sweep(
     requires size { length shapes.old.items ≡ length method.now.instrs.items }
     requires settled { SettledBelow (plain_of code.now) (plain_method code.now method.now) shapes.old.items start }
     requires inside { start ≤ length method.now.instrs.items }
+    requires numbers { AreNumbers (length method.now.regions.items) handlers.now }
     ensures ok { OnOk result (Extends (plain_of code.now) (plain_method code.now method.now) shapes.old.items shapes.new.items 0) }
     ensures settled { OnOk result (SettledBelow (plain_of code.now) (plain_method code.now method.now) shapes.new.items (length method.now.instrs.items)) }
     ensures err { IfErr result (Tells code.now method.now) }
 {
     let mut at = start;
-    while at < method.instrs.len() {
-        at = visit(code, method, shapes, at)?;
+    for handler in handlers {
+        at = sweep_to(code, method, shapes, at, handler.place)?;
+        at = wake(code, method, shapes, handler.region, at)?;
     }
+    sweep_to(code, method, shapes, at, method.instrs.len())?;
     Ok(())
 }
 
@@ -338,9 +392,10 @@ pub(crate) fn settle(
     ensures caught { OnOk result ((k : ℕ) → k < length method.now.regions.items → CatchDone (plain_method code.now method.now) shapes.new.items k) }
     ensures err { IfErr result (Tells code.now method.now) }
 {
+    let handlers = handlers_of(*shapes.allocator(), method)?;
     let mut start = Some(0);
     while let Some(at) = start {
-        sweep(code, method, shapes, at)?;
+        sweep(code, method, shapes, handlers.as_slice(), at)?;
         start = catches(code, method, shapes)?;
     }
     Ok(())

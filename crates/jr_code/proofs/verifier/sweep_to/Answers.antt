@@ -2,7 +2,7 @@ use Rattle.std.proofs.Common.{length, arith}
 use Rattle.jr_code.specs.Views.{plain_of}
 use Rattle.jr_code.specs.WellFormed.{plain_method}
 use Rattle.jr_code.proofs.Leaving.{swept_extends, swept_settled, swept_less}
-use Rattle.jr_code.proofs.verifier.sweep.Goals as goal
+use Rattle.jr_code.proofs.verifier.sweep_to.Goals as goal
 
 pub loop-at-smaller : goal.loop-at-smaller
 loop-at-smaller c =
