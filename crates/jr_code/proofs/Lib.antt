@@ -1,5 +1,6 @@
 pub mod Applied
 pub mod Calls
+pub mod Crossing
 pub mod Depths
 pub mod Fields
 pub mod Flows

@@ -13,6 +13,7 @@ pub mod instruction;
 mod kinds;
 pub mod laws;
 mod shapes;
+pub mod sharing;
 #[cfg(test)]
 mod tests;
 mod verifier;
