@@ -45,10 +45,13 @@ impl Kinds {
         self.kinds.pop()
     }
 
+    /// The same kinds, with room for the two more that an instruction adds at most.
     pub(crate) fn copy(&self) -> Result<Kinds, AllocError>
         ensures { IfOk result (λ copy. copy ≡ self.now) }
     {
-        let kinds = Vec::from_slice(*self.kinds.allocator(), self.kinds.as_slice())?;
+        let room = self.kinds.len().saturating_add(2);
+        let mut kinds = Vec::with_capacity(*self.kinds.allocator(), room)?;
+        kinds.extend_from_slice(self.kinds.as_slice())?;
         Ok(Kinds { kinds })
     }
 
