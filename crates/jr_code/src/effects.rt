@@ -15,7 +15,7 @@ ghost use Rattle.jr_code.specs.WellFormed.{LocalsBegin, plain_method};
 ghost use Rattle.jr_code.specs.declared.instruction.Instruction.TheVariants as rows;
 
 use crate::code::{Code, MethodCode};
-use crate::instruction::Instruction;
+use crate::instruction::Instruction as Row;
 use crate::kinds::{Kinds, are_values};
 use jr_arith::{Binary, Unary, Width, kind_of_element};
 use jr_base::{MethodId, SlotKind, TextId};
@@ -422,61 +422,67 @@ fn throw_new(code: &Code, method: &MethodCode, fault: u32, kinds: &Kinds) -> boo
     fault < code.faults.len()
 }
 
+fn two_operands(
+    code: &Code,
+    method: &MethodCode,
+    operator: Binary,
+    kinds: &mut Kinds,
+) -> Result<bool, AllocError>
+    ensures { IfOk result (HasEffect (plain_of code.now) (plain_method code.now method.now) (meaning (tables_of code.now) (rows.TwoOperands operator)) kinds.old kinds.new) }
+{
+    kinds.change(
+        &[operator.left_kind(), operator.right_kind()],
+        operator.result_kind(),
+    )
+}
+
 /// The kinds after an instruction. False where the operands aren't there, or where it names what isn't.
 pub(crate) fn apply(
     code: &Code,
     method: &MethodCode,
-    instruction: Instruction,
+    instruction: Row,
     kinds: &mut Kinds,
 ) -> Result<bool, AllocError>
     requires { LocalsBegin method.now }
     ensures { IfOk result (HasEffect (plain_of code.now) (plain_method code.now method.now) (meaning (tables_of code.now) instruction) kinds.old kinds.new) }
 {
     match instruction {
-        Instruction::PushInt(_) => kinds.change(&[], SlotKind::Int),
-        Instruction::PushBool(_) => kinds.change(&[], SlotKind::Bool),
-        Instruction::PushNull => kinds.change(&[], SlotKind::Ref),
-        Instruction::PushClass(class) => push_class(code, method, class, kinds),
-        Instruction::PushLong(place) => push_long(code, method, place, kinds),
-        Instruction::Make(made) => make(code, method, made, kinds),
-        Instruction::Load(place) => load(code, method, place, kinds),
-        Instruction::Store(place) => Ok(store(code, method, place, kinds)),
-        Instruction::Pop => Ok(kinds.pop().is_some()),
-        Instruction::Dup => dup(code, method, kinds),
-        Instruction::Dup2 => dup2(code, method, kinds),
-        Instruction::DupX1 => dup_x1(code, method, kinds),
-        Instruction::DupX2 => dup_x2(code, method, kinds),
-        Instruction::OneOperand(operator) => kinds.change(&[operator.kind()], operator.kind()),
-        Instruction::TwoOperands(operator) => kinds.change(
-            &[operator.left_kind(), operator.right_kind()],
-            operator.result_kind(),
-        ),
-        Instruction::ConvertTo(width) => kinds.change(&[width.kind_converted()], width.kind()),
-        Instruction::Jump(_)
-        | Instruction::BackTo(_)
-        | Instruction::YieldNow
-        | Instruction::CommitNow => Ok(true),
-        Instruction::JumpIf(_) | Instruction::JumpNot(_) => Ok(kinds.take(&[SlotKind::Bool])),
-        Instruction::GetField(field) => get_field(code, method, field, kinds),
-        Instruction::PutField(field) => Ok(put_field(code, method, field, kinds)),
-        Instruction::GetStatic(field) => get_static(code, method, field, kinds),
-        Instruction::PutStatic(field) => Ok(put_static(code, method, field, kinds)),
-        Instruction::GetElement(element) => get_element(code, method, element, kinds),
-        Instruction::PutElement(element) => Ok(put_element(code, method, element, kinds)),
-        Instruction::ArrayLength => kinds.change(&[SlotKind::Ref], SlotKind::Int),
-        Instruction::MakeArray(element) => make_array(code, method, element, kinds),
-        Instruction::EnterMonitor | Instruction::ExitMonitor | Instruction::OnObject(_) => Ok(
-            kinds.take(&[SlotKind::Ref]),
-        ),
-        Instruction::WaitForTime => Ok(kinds.take(&[SlotKind::Ref, SlotKind::Long])),
-        Instruction::SleepFor => Ok(kinds.take(&[SlotKind::Int])),
-        Instruction::CallStaticMethod(called) => call_static(code, method, called, kinds),
-        Instruction::CallMethodOn(called) => call_on(code, method, called, kinds),
-        Instruction::ReturnNothing => Ok(method.result.is_none()),
-        Instruction::ReturnTop => Ok(return_top(code, method, kinds)),
-        Instruction::AssertThat(asserted) => Ok(assert_that(code, method, asserted, kinds)),
-        Instruction::PrintAll(print) => Ok(print_all(code, method, print, kinds)),
-        Instruction::ThrowNew(fault) => Ok(throw_new(code, method, fault, kinds)),
-        Instruction::ThrowLocal(place) => Ok(throw_local(code, method, place, kinds)),
+        Row::PushInt(_) => kinds.change(&[], SlotKind::Int),
+        Row::PushBool(_) => kinds.change(&[], SlotKind::Bool),
+        Row::PushNull => kinds.change(&[], SlotKind::Ref),
+        Row::PushClass(class) => push_class(code, method, class, kinds),
+        Row::PushLong(place) => push_long(code, method, place, kinds),
+        Row::Make(made) => make(code, method, made, kinds),
+        Row::Load(place) => load(code, method, place, kinds),
+        Row::Store(place) => Ok(store(code, method, place, kinds)),
+        Row::Pop => Ok(kinds.pop().is_some()),
+        Row::Dup => dup(code, method, kinds),
+        Row::Dup2 => dup2(code, method, kinds),
+        Row::DupX1 => dup_x1(code, method, kinds),
+        Row::DupX2 => dup_x2(code, method, kinds),
+        Row::OneOperand(operator) => kinds.change(&[operator.kind()], operator.kind()),
+        Row::TwoOperands(operator) => two_operands(code, method, operator, kinds),
+        Row::ConvertTo(width) => kinds.change(&[width.kind_converted()], width.kind()),
+        Row::Jump(_) | Row::BackTo(_) | Row::YieldNow | Row::CommitNow => Ok(true),
+        Row::JumpIf(_) | Row::JumpNot(_) => Ok(kinds.take(&[SlotKind::Bool])),
+        Row::GetField(field) => get_field(code, method, field, kinds),
+        Row::PutField(field) => Ok(put_field(code, method, field, kinds)),
+        Row::GetStatic(field) => get_static(code, method, field, kinds),
+        Row::PutStatic(field) => Ok(put_static(code, method, field, kinds)),
+        Row::GetElement(element) => get_element(code, method, element, kinds),
+        Row::PutElement(element) => Ok(put_element(code, method, element, kinds)),
+        Row::ArrayLength => kinds.change(&[SlotKind::Ref], SlotKind::Int),
+        Row::MakeArray(element) => make_array(code, method, element, kinds),
+        Row::EnterMonitor | Row::ExitMonitor | Row::OnObject(_) => Ok(kinds.take(&[SlotKind::Ref])),
+        Row::WaitForTime => Ok(kinds.take(&[SlotKind::Ref, SlotKind::Long])),
+        Row::SleepFor => Ok(kinds.take(&[SlotKind::Int])),
+        Row::CallStaticMethod(called) => call_static(code, method, called, kinds),
+        Row::CallMethodOn(called) => call_on(code, method, called, kinds),
+        Row::ReturnNothing => Ok(method.result.is_none()),
+        Row::ReturnTop => Ok(return_top(code, method, kinds)),
+        Row::AssertThat(asserted) => Ok(assert_that(code, method, asserted, kinds)),
+        Row::PrintAll(print) => Ok(print_all(code, method, print, kinds)),
+        Row::ThrowNew(fault) => Ok(throw_new(code, method, fault, kinds)),
+        Row::ThrowLocal(place) => Ok(throw_local(code, method, place, kinds)),
     }
 }

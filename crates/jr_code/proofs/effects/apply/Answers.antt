@@ -1,8 +1,8 @@
 use Rattle.std.proofs.Common.{[], ◌∷◌, Some, sym, subst}
 use Rattle.jr_base.specs.declared.kind.SlotKind.TheVariants.{Int, Ref as Reference}
-use Rattle.jr_arith.specs.Kinds.{kind_of_width, kind_converted, unary_kind, left_kind, right_kind, result_kind}
+use Rattle.jr_arith.specs.Kinds.{kind_of_width, kind_converted, unary_kind}
 use Rattle.jr_code.specs.declared.instruction.Instruction.TheVariants as rows
-use Rattle.jr_code.specs.Instructions.{OneOperand, TwoOperands, ConvertTo, ArrayLength}
+use Rattle.jr_code.specs.Instructions.{OneOperand, ConvertTo, ArrayLength}
 use Rattle.jr_code.specs.Decoded.{meaning}
 use Rattle.jr_code.specs.Views.{tables_of, plain_of}
 use Rattle.jr_code.specs.WellFormed.{plain_method}
@@ -49,10 +49,8 @@ returns-in-OneOperand c =
 
 pub returns-in-TwoOperands : goal.returns-in-TwoOperands
 returns-in-TwoOperands c =
-    of_row (tables_of c.args.code.now) (plain_of c.args.code.now) (plain_method c.args.code.now c.args.method.now) c.args.kinds.now c.change-in-TwoOperands.new.self
-    c.change-in-TwoOperands.result c.args.instruction (rows.TwoOperands c.in-TwoOperands.operator) c.in-TwoOperands.is
-    (changed (plain_of c.args.code.now) (plain_method c.args.code.now c.args.method.now) (TwoOperands c.in-TwoOperands.operator) (left_kind c.in-TwoOperands.operator ∷ right_kind c.in-TwoOperands.operator ∷ []) (Some (result_kind c.in-TwoOperands.operator)) c.args.kinds.now c.change-in-TwoOperands.new.self
-    (λ a x. x) (λ a x. x) c.change-in-TwoOperands.result (rw (c.left_kind.ensures, c.right_kind.ensures, c.result_kind.ensures) at c.change-in-TwoOperands.ensures))
+    of_row (tables_of c.args.code.now) (plain_of c.args.code.now) (plain_method c.args.code.now c.args.method.now) c.args.kinds.now c.two_operands.new.kinds
+    c.two_operands.result c.args.instruction (rows.TwoOperands c.in-TwoOperands.operator) c.in-TwoOperands.is c.two_operands.ensures
 
 pub returns-in-ConvertTo : goal.returns-in-ConvertTo
 returns-in-ConvertTo c =
