@@ -71,9 +71,11 @@ fn arithmetic_of_longs(rt: HostRuntime) -> Result<(), Fail> {
         ),
         (Arithmetic::Divide, LONG_LEAST, -1, Some(LONG_LEAST), false),
         (Arithmetic::Divide, -7, 2, Some(-3), true),
+        (Arithmetic::Divide, 7, -2, Some(-3), true),
         (Arithmetic::Divide, 1, 0, None, true),
         (Arithmetic::Remainder, LONG_LEAST, -1, Some(0), true),
         (Arithmetic::Remainder, -7, 2, Some(-1), true),
+        (Arithmetic::Remainder, 7, -2, Some(1), true),
         (Arithmetic::Remainder, 1, 0, None, true),
     ];
     for (operator, a, b, result, fits) in rows {

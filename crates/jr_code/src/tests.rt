@@ -1,10 +1,14 @@
 //! What no clause says: that right code is taken, and that the place told of a broken rule is the one that is meant.
 
+ghost use Rattle.std.specs.Prelude.{◌≡◌};
+
 use super::*;
+use jr_base::SlotKind::{Caught, Int, Ref};
 use jr_base::{
     ClassId, ClauseId, Elem, Fault, Memory, MethodId, NewKind, ObjId, Reserved, SlotKind, TextId,
 };
 use std::alloc::Global;
+use std::sync::Arc;
 use std::test::Fail;
 
 /// Instructions, each by its row's number and its argument.
@@ -131,9 +135,9 @@ fn asserts(alloc: Global) -> Result<Reserved<AssertCode>, Memory> {
     Ok(all)
 }
 
-/// What `check` says of code with the method of a row: nothing where it is taken.
-fn told(alloc: Global, frame: &Frame<'_>, rows: Rows<'_>) -> Result<Option<CheckFail>, Memory> {
-    let code = Code {
+/// Code with the method of a row.
+fn code(alloc: Global, frame: &Frame<'_>, rows: Rows<'_>) -> Result<Code, Memory> {
+    Ok(Code {
         methods: methods(alloc, frame, rows)?,
         fields: fields(alloc)?,
         longs: list(alloc, &[7])?,
@@ -143,8 +147,12 @@ fn told(alloc: Global, frame: &Frame<'_>, rows: Rows<'_>) -> Result<Option<Check
         faults: list(alloc, &[Fault::Exception])?,
         prints: prints(alloc)?,
         asserts: asserts(alloc)?,
-    };
-    match check(alloc, code) {
+    })
+}
+
+/// What `check` says of code with the method of a row: nothing where it is taken.
+fn told(alloc: Global, frame: &Frame<'_>, rows: Rows<'_>) -> Result<Option<CheckFail>, Memory> {
+    match check(alloc, code(alloc, frame, rows)?) {
         Ok(_) => Ok(None),
         Err(fail) => Ok(Some(fail)),
     }
@@ -259,6 +267,61 @@ fn takes_code_that_keeps_the_rules(rt: HostRuntime) -> Result<(), Fail> {
     Ok(())
 }
 
+/// Whether a method is static, its formals, its result, its locals, its instructions, and where it breaks a rule.
+type Declared<'a> = (
+    bool,
+    &'a [SlotKind],
+    Option<SlotKind>,
+    &'a [SlotKind],
+    Rows<'a>,
+    Option<u32>,
+);
+
+static DECLARED: [Declared<'static>; 19] = [
+    // the locals begin with `this`, where there is one, and then the formals
+    (true, &[], None, &[], &[(64, 0)], None),
+    (true, &[Int, Ref], None, &[Int, Ref, Int], &[(64, 0)], None),
+    (false, &[], None, &[Ref], &[(64, 0)], None),
+    (false, &[Int], None, &[Ref, Int, Caught], &[(64, 0)], None),
+    (true, &[Int], None, &[], &[(64, 0)], Some(0)),
+    (true, &[Int, Ref], None, &[Ref, Int], &[(64, 0)], Some(0)),
+    (false, &[], None, &[], &[(64, 0)], Some(0)),
+    (false, &[], None, &[Int], &[(64, 0)], Some(0)),
+    (false, &[Int], None, &[Ref], &[(64, 0)], Some(0)),
+    (false, &[Int], None, &[Int, Ref], &[(64, 0)], Some(0)),
+    // no formal is an exception, and no result
+    (true, &[Caught], None, &[Caught], &[(64, 0)], Some(0)),
+    (true, &[], Some(Caught), &[Caught], &[(69, 0)], Some(0)),
+    // a method with a result returns one of its kind, and another returns none
+    (true, &[], Some(Int), &[], &[(1, 5), (65, 0)], None),
+    (true, &[], Some(Int), &[], &[(69, 0)], None),
+    (true, &[], Some(Int), &[], &[(64, 0)], Some(0)),
+    (true, &[], Some(Int), &[], &[(61, 0), (64, 0)], Some(1)),
+    (true, &[], Some(Ref), &[], &[(1, 5), (65, 0)], Some(1)),
+    (true, &[], None, &[], &[(1, 5), (65, 0)], Some(1)),
+    (true, &[], Some(Int), &[], &[(65, 0)], Some(0)),
+];
+
+#[test]
+fn looks_at_formals_result_and_locals(rt: HostRuntime) -> Result<(), Fail> {
+    for (is_static, formals, result, locals, rows, at) in &DECLARED {
+        let frame = Frame {
+            is_static: *is_static,
+            formals,
+            result: *result,
+            locals,
+            regions: &[],
+        };
+        let method = MethodId(2);
+        assert_eq!(rt;
+            told(rt.alloc(), &frame, rows)?,
+            at.map(|at| CheckFail::Bad { method, at }),
+            "{formals:?} {result:?} {locals:?} {rows:?}"
+        );
+    }
+    Ok(())
+}
+
 /// `while (x > 0) { x = x - 1; }`, `new Object()` with a notify under its monitor, and a catch around both.
 static LOOP_AND_MONITOR: [(u8, u32); 23] = [
     (1, 10),
@@ -369,4 +432,29 @@ fn numbers_each_row(rt: HostRuntime) {
             assert_eq!(rt; instruction.encode().code, first);
         }
     }
+}
+
+/// What threads may share.
+fn shared<T: Send + Sync>(value: T) -> T
+    ensures { result ≡ value }
+{
+    value
+}
+
+/// How deep the stack of a method gets that adds two numbers, where threads share its code.
+fn depth_of_shared(alloc: Global) -> Result<u32, Memory> {
+    let rows: Rows<'_> = &[(1, 5), (1, 5), (13, 0), (8, 0), (64, 0)];
+    let checked = match check(alloc, code(alloc, &PLAIN, rows)?) {
+        Ok(checked) => shared(Arc::new(alloc, checked)?),
+        Err(_) => return Err(Memory),
+    };
+    if checked.parts().methods.len() <= 2 {
+        return Err(Memory);
+    }
+    Ok(checked.depth(MethodId(2)))
+}
+
+#[test]
+fn is_shared_by_threads(rt: HostRuntime) {
+    assert!(rt; depth_of_shared(rt.alloc()) == Ok(2));
 }
