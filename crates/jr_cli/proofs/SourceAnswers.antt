@@ -32,10 +32,10 @@ same_form bytes a b f g p q e h = sym e ∙ ap (form_of bytes) (same_classes byt
 
 -- where a unit is spelled within the limit, none is refused
 not_unread : (ts : List Token) (classes : List Class) (r : Refusal) → Fits ts classes → Refuses ts r → ⊥
-not_unread ts classes (Syntax s) fits none = none classes fits.spelled
-not_unread ts classes (NotInProfile s) fits none = none.0 classes fits.spelled
-not_unread ts classes (BigLiteral s) fits none = none.0 classes fits.spelled
-not_unread ts classes (TooDeep s) fits none = none.0 classes fits.spelled fits.shallow
+not_unread ts classes (Syntax s) fits none = none classes 0 fits.spelled
+not_unread ts classes (NotInProfile s) fits none = none.0 classes 0 fits.spelled
+not_unread ts classes (BigLiteral s) fits none = none.0 classes 0 fits.spelled
+not_unread ts classes (TooDeep s) fits none = none.0 classes 0 fits.spelled fits.shallow
 not_unread ts classes _ fits none = none
 
 pub one_meaning : (bytes : List ℕ) → IsOneMeaning bytes

@@ -13,14 +13,16 @@ use Rattle.jr_ast.specs.declared.operator.Postfix.{Postfix}
 use Rattle.jr_ast.specs.declared.operator.Infix.{Infix}
 use Rattle.jr_ast.specs.declared.operator.AssignOp.{AssignOp}
 use Rattle.jr_ast.specs.Expressions.{Expr}
-use Rattle.jr_expr_parser.specs.Seen.{seen}
+use Rattle.jr_reading.specs.Seen.{seen}
 use Rattle.jr_expr_parser.specs.Operators.{prefix_of, postfix_of, infix_of, assignment_of, quantifier_of, reach}
 use Rattle.jr_expr_parser.specs.Nesting.{nesting}
 use Rattle.jr_expr_parser.specs.Grammar.{Spells}
 use Rattle.jr_expr_parser.specs.Grammar as g
-use Rattle.jr_expr_parser.specs.Reading.{◌>>=◌, one_or, same_kind, fits, of_level}
-use Rattle.jr_expr_parser.specs.Reading as r
-use Rattle.jr_expr_parser.proofs.Tokens.{is_same, not_same}
+use Rattle.jr_reading.specs.Outcomes.{◌>>=◌, one_or}
+use Rattle.jr_reading.specs.Steps.{same_kind}
+use Rattle.jr_expr_parser.specs.Reader.{fits, of_level}
+use Rattle.jr_expr_parser.specs.Reader as r
+use Rattle.jr_reading.proofs.Tokens.{is_same}
 
 -- n is the nesting of what is spelled, and less than c nests what is read
 abbrev pub Agrees : {A : Type 0} → ℕ → ℕ → Result A Refusal → A → Type 0
@@ -203,23 +205,6 @@ prefix_starts jml k.MinusMinus op e = refl
 prefix_starts jml _ op e = absurd cc
 
 module _ (jml : Bool) (ts : List Token) where
-  pub expected : (i : ℕ) (a : Kind) → seen jml ts i ≡ a → r.expect jml ts i a ≡ Ok tt
-  unfolding r.expect r.sees
-  expected i a e = rw (is_same (seen jml ts i) a e) refl
-
-  pub sees_it : (i : ℕ) (a : Kind) → seen jml ts i ≡ a → r.sees jml ts i a ≡ true
-  unfolding r.sees
-  sees_it i a e = is_same (seen jml ts i) a e
-
-  pub sees_not : (i : ℕ) (a : Kind) → (seen jml ts i ≡ a → ⊥) → r.sees jml ts i a ≡ false
-  unfolding r.sees
-  sees_not i a e = not_same (seen jml ts i) a e
-
-  -- a token that is another
-  pub sees_other : (i : ℕ) (a b : Kind) → seen jml ts i ≡ a → same_kind a b ≡ false → r.sees jml ts i b ≡ false
-  unfolding r.sees
-  sees_other i a b e other = rw e other
-
   pub no_operator : (l j : ℕ) → reach (seen jml ts j) < l → r.operator jml ts l j ≡ None
   unfolding r.operator
   no_operator l j ends = level_none l (infix_of jml (seen jml ts j)) (λ p e. let h = infix_reach jml (seen jml ts j) p e in omega arith)

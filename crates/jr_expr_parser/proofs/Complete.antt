@@ -2,7 +2,6 @@
 use Rattle.std.proofs.Common.{◌≡◌, ℕ, zero, suc, ◌+◌, ◌-◌, ◌≤◌, ◌<◌, Bool, true, false, cond, eqb, ltb, leb, List, [], ◌∷◌, ◌++◌, length, Some, None, Ok, Err, refl, sym, ap, ◌∙◌, subst, inr, append_assoc, arith}
 use Rattle.std.specs.Prelude.{codes}
 use Rattle.std.proofs.lemmas.List.{append-nil}
-use Rattle.std.proofs.lemmas.Slice.Eq.{bytes_eq-Decides}
 use Rattle.jr_lexer.specs.declared.kind.Kind.{Kind}
 use Rattle.jr_lexer.specs.declared.kind.Kind.TheVariants as k
 use Rattle.jr_lexer.specs.Token.{Token}
@@ -19,24 +18,29 @@ use Rattle.jr_ast.specs.Expressions.{Expr, exprs}
 use Rattle.jr_ast.specs.Expressions as e
 use Rattle.jr_expr_parser.specs.declared.operators.Grouping.{Grouping}
 use Rattle.jr_expr_parser.specs.declared.operators.Grouping.TheVariants.{Assigns, Chooses, Implies, Once, ToTheLeft}
-use Rattle.jr_expr_parser.specs.Seen.{seen, name_at, literal_at}
-use Rattle.jr_expr_parser.specs.Operators.{prefix_of, postfix_of, infix_of, assignment_of, bound_of, quantifier_of, element_of, reach, grouping_of}
+use Rattle.jr_reading.specs.Seen.{seen, name_at, literal_at}
+use Rattle.jr_expr_parser.specs.Operators.{prefix_of, postfix_of, infix_of, assignment_of, bound_of, quantifier_of, extends, reach, grouping_of}
 use Rattle.jr_expr_parser.specs.Nesting.{nesting, nesting_in, is_new_array, is_implied_by}
 use Rattle.jr_expr_parser.specs.Grammar.{Spells, Arguments, Listed, Conjuncts}
 use Rattle.jr_expr_parser.specs.Grammar as g
-use Rattle.jr_expr_parser.specs.Reading.{Outcome, ◌>>=◌, one_or, same_kind, fits}
-use Rattle.jr_expr_parser.specs.Reading as r
-use Rattle.jr_expr_parser.proofs.Tokens.{taken, postfix_taken, infix_taken, advances, advances_arguments}
-use Rattle.jr_expr_parser.proofs.Agrees.{Agrees, agrees_as, agrees_to, on, on_ok, if_true, if_false, or_some, or_none, more, fits_agrees, Comes, comes_then, comes_on, comes_to, comes_as, infix_reach, postfix_reach, assignment_reach, starts_no_quantifier, expected, sees_it, sees_not, sees_other, no_operator, an_operator, no_postfix, no_assignment, reach_is, goes_not, Opens, opens, starts}
+use Rattle.jr_reading.specs.Types.{element_of}
+use Rattle.jr_reading.specs.Outcomes.{Outcome, ◌>>=◌, one_or}
+use Rattle.jr_reading.specs.Steps.{same_kind}
+use Rattle.jr_reading.specs.Steps as steps
+use Rattle.jr_reading.proofs.Tokens.{taken, seen_is, sees_it, sees_not, sees_other, expected, text_is}
+use Rattle.jr_expr_parser.specs.Reader.{fits}
+use Rattle.jr_expr_parser.specs.Reader as r
+use Rattle.jr_expr_parser.proofs.Tokens.{postfix_taken, infix_taken, advances, advances_arguments}
+use Rattle.jr_expr_parser.proofs.Agrees.{Agrees, agrees_as, agrees_to, on, on_ok, if_true, if_false, or_some, or_none, more, fits_agrees, Comes, comes_then, comes_on, comes_to, comes_as, infix_reach, postfix_reach, assignment_reach, starts_no_quantifier, no_operator, an_operator, no_postfix, no_assignment, reach_is, goes_not, Opens, opens, starts}
 use Rattle.std.proofs.lemmas.Bool.{eqb-true}
-use Rattle.jr_expr_parser.proofs.Sound.{seen_is, is_least_by, level_of_assigns, level_of_chooses}
+use Rattle.jr_expr_parser.proofs.Causes.{is_least_by, level_of_assigns, level_of_chooses}
 
 module _ (jml : Bool) (ts : List Token) where
   -- what may stand behind a name, so that it is read as a variable
   abbrev pub Follows : ℕ → Type 0
   Follows j = (jml ≡ false → seen jml ts j ≡ k.OpenParen → ⊥) × (seen jml ts j ≡ k.Dot → seen jml ts (j + 1) ≡ k.Class → ⊥)
 
-  -- one that reads has come to go on from place j, with turns enough for what is left
+  -- one that reads has come to go on from index j, with turns enough for what is left
   abbrev pub Way : ℕ → ℕ → Outcome Expr → ℕ → (ℕ → Outcome Expr) → Type 0
   Way c n o j p = (turns : ℕ) × (length ts ≤ turns + j) × Comes (suc c) n o (p turns)
 
@@ -254,19 +258,27 @@ module _ (jml : Bool) (ts : List Token) where
         let t = f.trails refl (follows_end j s) in
         (length ts, omega arith, comes_then (suc c) (suc c) (nesting a) (nesting a) _ (a, j) (λ a. r.behind jml ts c (r.nested jml ts c) (length ts) i a.0 a.1) (λ z. z) (comes_to (suc c) (nesting a) _ _ (a, j) t.2 (trailed q t.0 j a s))))
 
-    not_least_by : (i : ℕ) → r.sees jml ts i k.Minus ≡ false → r.is_least jml ts i ≡ false
+    not_least_by : (i : ℕ) → steps.sees jml ts i k.Minus ≡ false → r.is_least jml ts i ≡ false
     unfolding r.is_least
     not_least_by i h = rw h refl
 
     not_least_behind : (i : ℕ) → (seen jml ts (i + 1) ≡ k.Integer → value_at ts (i + 1) ≡ big_at ts (i + 1) → ⊥) → r.is_least jml ts i ≡ false
     unfolding r.is_least
-    not_least_behind i f = go (r.sees jml ts i k.Minus) (r.sees jml ts (i + 1) k.Integer) (eqb (value_at ts (i + 1)) (big_at ts (i + 1))) refl refl
+    not_least_behind i f = go (steps.sees jml ts i k.Minus) (steps.sees jml ts (i + 1) k.Integer) (extends jml (seen jml ts (i + 2))) (eqb (value_at ts (i + 1)) (big_at ts (i + 1))) refl refl
       where
-        go : (x y z : Bool) → r.sees jml ts (i + 1) k.Integer ≡ y → eqb (value_at ts (i + 1)) (big_at ts (i + 1)) ≡ z → cond x (cond y z false) false ≡ false
-        go false y z h v = refl
-        go true false z h v = refl
-        go true true false h v = refl
-        go true true true h v = absurd (f (seen_is jml ts (i + 1) k.Integer h) (eqb-true (value_at ts (i + 1)) (big_at ts (i + 1)) v))
+        go : (x y z w : Bool) → steps.sees jml ts (i + 1) k.Integer ≡ y → eqb (value_at ts (i + 1)) (big_at ts (i + 1)) ≡ w → cond x (cond y (cond z false w) false) false ≡ false
+        go false y z w h v = refl
+        go true false z w h v = refl
+        go true true true w h v = refl
+        go true true false false h v = refl
+        go true true false true h v = absurd (f (seen_is jml ts (i + 1) k.Integer h) (eqb-true (value_at ts (i + 1)) (big_at ts (i + 1)) v))
+
+    extends_not : (m : Bool) (a : Kind) → reach a < 16 → extends m a ≡ false
+    extends_not m k.PlusPlus ends = absurd (omega arith)
+    extends_not m k.MinusMinus ends = absurd (omega arith)
+    extends_not m k.Dot ends = absurd (omega arith)
+    extends_not m k.OpenBracket ends = absurd (omega arith)
+    extends_not m _ ends = refl
 
     -- an operand with no operator before it
     complete_of : (q i j : ℕ) (a : Expr) → Opens jml ts 17 i → Found c q 17 i a j → Found c q 16 i a j
@@ -293,7 +305,7 @@ module _ (jml : Bool) (ts : List Token) where
     least_found q i h n v =
         not_left q 16 i (i + 2) (e.Prefixed (span_at ts i) Negate (e.Integer (span_at ts (i + 1)) (literal_at ts (i + 1)))) (omega arith) (λ le. absurd (omega arith))
         (λ s.
-        if_true _ _ _ _ _ _ (is_least_by jml ts i h n v)
+        if_true _ _ _ _ _ _ (is_least_by jml ts i h n (extends_not jml (seen jml ts (i + 2)) s) v)
         (on (suc c) (suc c) (nesting (e.Prefixed (span_at ts i) Negate (e.Integer (span_at ts (i + 1)) (literal_at ts (i + 1))))) _ _ (e.Prefixed (span_at ts i) Negate (e.Integer (span_at ts (i + 1)) (literal_at ts (i + 1)))) _ _ (λ z. z) (fits_agrees c (span_at ts i) _) refl))
 
     tighter_found : (q l i j : ℕ) (a : Expr) → Opens jml ts (suc l) i → Found c q (suc l) i a j → Found c q l i a j
@@ -333,19 +345,19 @@ module _ (jml : Bool) (ts : List Token) where
     unfolding r.is_call
     not_call j f = go jml refl
       where
-        go : (m : Bool) → jml ≡ m → cond m false (r.sees jml ts j k.OpenParen) ≡ false
+        go : (m : Bool) → jml ≡ m → cond m false (steps.sees jml ts j k.OpenParen) ≡ false
         go true e = refl
         go false e = sees_not jml ts j k.OpenParen (f e)
 
     a_call : (j : ℕ) → jml ≡ false → seen jml ts j ≡ k.OpenParen → r.is_call jml ts j ≡ true
     unfolding r.is_call
-    a_call j m h = ap (λ x. cond x false (r.sees jml ts j k.OpenParen)) m ∙ sees_it jml ts j k.OpenParen h
+    a_call j m h = ap (λ x. cond x false (steps.sees jml ts j k.OpenParen)) m ∙ sees_it jml ts j k.OpenParen h
 
     not_class : (j : ℕ) → (seen jml ts j ≡ k.Dot → seen jml ts (j + 1) ≡ k.Class → ⊥) → r.is_class jml ts j ≡ false
     unfolding r.is_class
-    not_class j f = go (r.sees jml ts j k.Dot) (r.sees jml ts (j + 1) k.Class) refl refl
+    not_class j f = go (steps.sees jml ts j k.Dot) (steps.sees jml ts (j + 1) k.Class) refl refl
       where
-        go : (x y : Bool) → r.sees jml ts j k.Dot ≡ x → r.sees jml ts (j + 1) k.Class ≡ y → cond x y false ≡ false
+        go : (x y : Bool) → steps.sees jml ts j k.Dot ≡ x → steps.sees jml ts (j + 1) k.Class ≡ y → cond x y false ≡ false
         go false y h v = refl
         go true false h v = refl
         go true true h v = absurd (f (seen_is jml ts j k.Dot h) (seen_is jml ts (j + 1) k.Class v))
@@ -396,12 +408,12 @@ module _ (jml : Bool) (ts : List Token) where
         (on (suc c) (suc c) (nesting_in (exprs es)) _ _ (es, j) _ _ (λ z. z) f refl))))
 
     new_array_found : (q i j : ℕ) (t : ElementType) (a : Expr) → jml ≡ false → seen jml ts i ≡ k.New → element_of (seen jml ts (i + 1)) (name_at ts (i + 1)) ≡ Some t → seen jml ts (i + 2) ≡ k.OpenBracket → Under q 1 (i + 3) a j → seen jml ts j ≡ k.CloseBracket → Found c q 18 i (e.NewArray (span_at ts i) t a) (j + 1)
-    unfolding r.made r.new_array r.element same_kind
+    unfolding r.made r.new_array steps.element same_kind
     new_array_found q i j t a m h n o u z =
         primary_found q i (j + 1) _ k.New h (λ s.
         if_false _ _ _ _ _ _ m
         (if_false _ _ _ _ _ _ (sees_other jml ts (i + 2) k.OpenBracket k.OpenParen o refl)
-        (on_ok _ _ _ t _ _ (ap (λ x. one_or x (Err (r.refusal_at jml ts (i + 1))) Ok) n)
+        (on_ok _ _ _ t _ _ (ap (λ x. one_or x (Err (steps.refusal_at ts (i + 1))) Ok) n)
         (on_ok _ _ _ tt _ _ (expected jml ts (i + 2) k.OpenBracket o)
         (on (suc c) (suc c) (suc (nesting a)) _ _ (a, j + 1) _ _ (λ z. z) (enclosed_agrees q (i + 3) j k.CloseBracket a u z) refl)))))
 
@@ -425,13 +437,9 @@ module _ (jml : Bool) (ts : List Token) where
         (if_true _ _ _ _ _ _ (sees_it jml ts (i + 1) k.OpenBracket o)
         (on (suc c) (suc c) (suc (nesting a)) _ _ (a, j + 1) _ _ (λ z. z) (enclosed_agrees q (i + 2) j k.CloseBracket a u z) refl)))
 
-    text_agrees : (i : ℕ) (text : List ℕ) → text_at ts i ≡ text → r.expect_text jml ts i text ≡ Ok tt
-    unfolding r.expect_text
-    text_agrees i text h = rw ((bytes_eq-Decides (text_at ts i) text).1 h) refl
-
     has_agrees : (i : ℕ) → seen jml ts i ≡ k.Dot → seen jml ts (i + 1) ≡ k.Name → text_at ts (i + 1) ≡ codes "has" → seen jml ts (i + 2) ≡ k.OpenParen → r.has jml ts i ≡ Ok tt
     unfolding r.has
-    has_agrees i d n w o = rw (expected jml ts i k.Dot d, expected jml ts (i + 1) k.Name n, text_agrees (i + 1) (codes "has") w) (expected jml ts (i + 2) k.OpenParen o)
+    has_agrees i d n w o = rw (expected jml ts i k.Dot d, expected jml ts (i + 1) k.Name n, text_is ts (i + 1) (codes "has") w) (expected jml ts (i + 2) k.OpenParen o)
 
     lockset_has_found : (q i j : ℕ) (a : Expr) → jml ≡ true → seen jml ts i ≡ k.BackslashLockset → seen jml ts (i + 1) ≡ k.Dot → seen jml ts (i + 2) ≡ k.Name → text_at ts (i + 2) ≡ codes "has" → seen jml ts (i + 3) ≡ k.OpenParen → Under q 1 (i + 4) a j → seen jml ts j ≡ k.CloseParen → Found c q 18 i (e.InLockset (span_at ts i) a) (j + 1)
     unfolding r.lockset r.lockset_has same_kind
@@ -446,9 +454,9 @@ module _ (jml : Bool) (ts : List Token) where
 
     -- ---- what follows a primary
 
-    goes_dot : (a : Expr) (j : ℕ) → seen jml ts j ≡ k.Dot → seen jml ts (j + 1) ≡ k.Name → r.goes_on jml ts a j ≡ true
+    goes_dot : (a : Expr) (j : ℕ) → seen jml ts j ≡ k.Dot → r.goes_on jml ts a j ≡ true
     unfolding r.goes_on
-    goes_dot a j d n = ap (λ x. r.goes_on_by jml ts x a j) d ∙ sees_it jml ts (j + 1) k.Name n
+    goes_dot a j d = ap (λ x. r.goes_on_by jml ts x a j) d
 
     goes_bracket : (a : Expr) (j : ℕ) → seen jml ts j ≡ k.OpenBracket → is_new_array a ≡ false → r.goes_on jml ts a j ≡ true
     unfolding r.goes_on
@@ -469,20 +477,27 @@ module _ (jml : Bool) (ts : List Token) where
             (n, omega arith, comes_on (suc c) (nesting a) (nesting b) _ _ _ deep t (comes_on (suc c) (nesting b) (nesting b) _ _ _ (omega arith) (inr one) two))
 
     field_found : (q i j : ℕ) (a : Expr) → Found c q 18 i a j → seen jml ts j ≡ k.Dot → seen jml ts (j + 1) ≡ k.Name → Found c q 18 i (e.FieldOf (e.place_of a) a (name_at ts (j + 1))) (j + 2)
-    unfolding r.suffix same_kind
+    unfolding r.suffix r.member same_kind
     field_found q i j a f d n =
-        suffix_found q i j (j + 2) a (e.FieldOf (e.place_of a) a (name_at ts (j + 1))) (omega arith) (omega arith) (taken jml ts j k.Dot d refl) f (follows_name j d n) (goes_dot a j d n) (λ s.
+        suffix_found q i j (j + 2) a (e.FieldOf (e.place_of a) a (name_at ts (j + 1))) (omega arith) (omega arith) (taken jml ts j k.Dot d refl) f (follows_name j d n) (goes_dot a j d) (λ s.
         if_false _ _ _ _ _ _ (sees_other jml ts j k.Dot k.OpenBracket d refl)
-        (if_false _ _ _ _ _ _ (not_call (j + 2) s.0) refl))
+        (on_ok _ _ _ tt _ _ (expected jml ts (j + 1) k.Name n)
+        (if_false _ _ _ _ _ _ (not_call (j + 2) s.0) refl)))
 
-    invoked_found : (q i j m : ℕ) (a : Expr) (es : List Expr) → j < m → jml ≡ false → Found c q 18 i a j → seen jml ts j ≡ k.Dot → seen jml ts (j + 1) ≡ k.Name → seen jml ts (j + 2) ≡ k.OpenParen → Agrees (suc c) (nesting_in (exprs es)) (r.arguments jml ts c (r.nested jml ts c) q (j + 3)) (es, m) → Found c q 18 i (e.CallOf (e.place_of a) a (name_at ts (j + 1)) (exprs es)) m
-    unfolding r.suffix r.invoked same_kind
-    invoked_found q i j m a es far mode f d n o args =
-        suffix_found q i j m a (e.CallOf (e.place_of a) a (name_at ts (j + 1)) (exprs es)) (omega arith) far (taken jml ts j k.Dot d refl) f (follows_name j d n) (goes_dot a j d n) (λ s.
+    no_print : (j : ℕ) → (seen jml ts (j + 3) ≡ k.Text → ⊥) → r.prints_string jml ts j ≡ false
+    unfolding r.prints_string
+    no_print j f = rw (sees_not jml ts (j + 3) k.Text f)
+
+    invoked_found : (q i j m : ℕ) (a : Expr) (es : List Expr) → j < m → jml ≡ false → Found c q 18 i a j → seen jml ts j ≡ k.Dot → seen jml ts (j + 1) ≡ k.Name → seen jml ts (j + 2) ≡ k.OpenParen → (seen jml ts (j + 3) ≡ k.Text → ⊥) → Agrees (suc c) (nesting_in (exprs es)) (r.arguments jml ts c (r.nested jml ts c) q (j + 3)) (es, m) → Found c q 18 i (e.CallOf (e.place_of a) a (name_at ts (j + 1)) (exprs es)) m
+    unfolding r.suffix r.member r.invoked same_kind
+    invoked_found q i j m a es far mode f d n o t args =
+        suffix_found q i j m a (e.CallOf (e.place_of a) a (name_at ts (j + 1)) (exprs es)) (omega arith) far (taken jml ts j k.Dot d refl) f (follows_name j d n) (goes_dot a j d) (λ s.
         if_false _ _ _ _ _ _ (sees_other jml ts j k.Dot k.OpenBracket d refl)
+        (on_ok _ _ _ tt _ _ (expected jml ts (j + 1) k.Name n)
         (if_true _ _ _ _ _ _ (a_call (j + 2) mode o)
+        (if_false _ _ _ _ _ _ (no_print j t)
         (on (suc c) (suc c) (nesting_in (exprs es)) _ _ (es, m) _ _ (λ z. omega arith) args
-        (on (suc c) (suc c) (nesting (e.CallOf (e.place_of a) a (name_at ts (j + 1)) (exprs es))) _ _ (e.CallOf (e.place_of a) a (name_at ts (j + 1)) (exprs es)) _ _ (λ z. z) (fits_agrees c (e.place_of a) _) refl))))
+        (on (suc c) (suc c) (nesting (e.CallOf (e.place_of a) a (name_at ts (j + 1)) (exprs es))) _ _ (e.CallOf (e.place_of a) a (name_at ts (j + 1)) (exprs es)) _ _ (λ z. z) (fits_agrees c (e.place_of a) _) refl))))))
 
     indexed_found : (q i j m : ℕ) (a b : Expr) → j < m → Found c q 18 i a j → is_new_array a ≡ false → seen jml ts j ≡ k.OpenBracket → Under q 1 (j + 1) b m → seen jml ts m ≡ k.CloseBracket → Found c q 18 i (e.ElementOf (e.place_of a) a b) (m + 1)
     unfolding r.suffix r.indexed same_kind
@@ -498,21 +513,21 @@ module _ (jml : Bool) (ts : List Token) where
     unfolding r.arguments
     none_agrees q i h = if_true _ _ _ _ _ _ (sees_it jml ts i k.CloseParen h) refl
 
-    some_agrees : (q i j : ℕ) (es : List Expr) → starts (seen jml ts i) ≡ true → Agrees (suc c) (nesting_in (exprs es)) (r.listed jml ts c (r.nested jml ts c) q (length ts) [] i) (es, j) → seen jml ts j ≡ k.CloseParen → Agrees (suc c) (nesting_in (exprs es)) (r.arguments jml ts c (r.nested jml ts c) q i) (es, j + 1)
+    some_agrees : (q i j : ℕ) (es : List Expr) → starts (seen jml ts i) ≡ true → Agrees (suc c) (nesting_in (exprs es)) (r.expressions jml ts c (r.nested jml ts c) q (length ts) [] i) (es, j) → seen jml ts j ≡ k.CloseParen → Agrees (suc c) (nesting_in (exprs es)) (r.arguments jml ts c (r.nested jml ts c) q i) (es, j + 1)
     unfolding r.arguments
     some_agrees q i j es s f h =
         if_false _ _ _ _ _ _ (sees_not jml ts i k.CloseParen (λ x. let y : false ≡ true = ap starts (sym x) ∙ s in absurd cc))
         (on (suc c) (suc c) (nesting_in (exprs es)) _ _ (es, j) _ _ (λ z. z) f
         (on_ok _ _ _ tt _ _ (expected jml ts j k.CloseParen h) refl))
 
-    last_agrees : (q n : ℕ) (before : List Expr) (i j : ℕ) (a : Expr) → Under q 1 i a j → (seen jml ts j ≡ k.Comma → ⊥) → Agrees (suc c) (nesting_in (exprs (a ∷ []))) (r.listed jml ts c (r.nested jml ts c) q (suc n) before i) (before ++ a ∷ [], j)
-    unfolding r.listed
+    last_agrees : (q n : ℕ) (before : List Expr) (i j : ℕ) (a : Expr) → Under q 1 i a j → (seen jml ts j ≡ k.Comma → ⊥) → Agrees (suc c) (nesting_in (exprs (a ∷ []))) (r.expressions jml ts c (r.nested jml ts c) q (suc n) before i) (before ++ a ∷ [], j)
+    unfolding steps.listed
     last_agrees q n before i j a u z =
         on c (suc c) (nesting a) _ _ (a, j) _ _ (λ z. omega arith) (u c)
         (if_false _ _ _ _ _ _ (sees_not jml ts j k.Comma z) refl)
 
-    more_agrees : (q n : ℕ) (before : List Expr) (i j m : ℕ) (a : Expr) (es : List Expr) → Under q 1 i a j → seen jml ts j ≡ k.Comma → Agrees (suc c) (nesting_in (exprs es)) (r.listed jml ts c (r.nested jml ts c) q n (before ++ a ∷ []) (j + 1)) ((before ++ a ∷ []) ++ es, m) → Agrees (suc c) (nesting_in (exprs (a ∷ es))) (r.listed jml ts c (r.nested jml ts c) q (suc n) before i) (before ++ a ∷ es, m)
-    unfolding r.listed
+    more_agrees : (q n : ℕ) (before : List Expr) (i j m : ℕ) (a : Expr) (es : List Expr) → Under q 1 i a j → seen jml ts j ≡ k.Comma → Agrees (suc c) (nesting_in (exprs es)) (r.expressions jml ts c (r.nested jml ts c) q n (before ++ a ∷ []) (j + 1)) ((before ++ a ∷ []) ++ es, m) → Agrees (suc c) (nesting_in (exprs (a ∷ es))) (r.expressions jml ts c (r.nested jml ts c) q (suc n) before i) (before ++ a ∷ es, m)
+    unfolding steps.listed
     more_agrees q n before i j m a es u z f =
         let same : ◌≡◌ {A = List Expr × ℕ} ((before ++ a ∷ []) ++ es, m) (before ++ a ∷ es, m) = ap (λ (x : List Expr). (x, m)) (append_assoc before (a ∷ []) es) in
         on c (suc c) (nesting a) _ _ (a, j) _ _ (λ z. omega arith) (u c)
@@ -536,11 +551,11 @@ module _ (jml : Bool) (ts : List Token) where
 
     same_name_agrees : (x i : ℕ) → seen jml ts i ≡ k.Name → text_at ts i ≡ text_at ts x → r.same_name jml ts x i ≡ Ok tt
     unfolding r.same_name
-    same_name_agrees x i n t = rw (expected jml ts i k.Name n) (text_agrees i (text_at ts x) t)
+    same_name_agrees x i n t = rw (expected jml ts i k.Name n) (text_is ts i (text_at ts x) t)
 
     bound_agrees : (i : ℕ) (b : Bound) → bound_of (seen jml ts i) ≡ Some b → r.bound jml ts i ≡ Ok b
     unfolding r.bound
-    bound_agrees i b h = ap (λ x. one_or x (Err (r.refusal_at jml ts i)) Ok) h
+    bound_agrees i b h = ap (λ x. one_or x (Err (steps.refusal_at ts i)) Ok) h
 
     between_agrees : (x j : ℕ) (low high : Bound) → bound_of (seen jml ts j) ≡ Some low → seen jml ts (j + 1) ≡ k.Name → text_at ts (j + 1) ≡ text_at ts x → seen jml ts (j + 2) ≡ k.AndAnd → seen jml ts (j + 3) ≡ k.Name → text_at ts (j + 3) ≡ text_at ts x → bound_of (seen jml ts (j + 4)) ≡ Some high → r.between jml ts x j ≡ Ok ((low, high), j + 5)
     unfolding r.between
@@ -580,6 +595,13 @@ module _ (jml : Bool) (ts : List Token) where
   listed_starts : {q i j : ℕ} {es : List Expr} → Listed jml ts q i es j → starts (seen jml ts i) ≡ true
   listed_starts (g.last x) = (opens jml ts x).start
   listed_starts (g.more x h y) = (opens jml ts x).start
+
+  no_text : (a : Kind) → starts a ≡ true → a ≡ k.Text → ⊥
+  no_text a s h = let x : false ≡ true = ap starts (sym h) ∙ s in absurd cc
+
+  arguments_no_text : {q i j : ℕ} {es : List Expr} → Arguments jml ts q i es j → seen jml ts i ≡ k.Text → ⊥
+  arguments_no_text (g.none h) t = let x : k.CloseParen ≡ k.Text = sym h ∙ t in absurd cc
+  arguments_no_text (g.some {i = i} x h) t = no_text (seen jml ts i) (listed_starts x) t
 
   conjuncts_end : {q i j : ℕ} {es : List Expr} → Conjuncts jml ts q i es j → reach (seen jml ts j) < 1 → reach (seen jml ts i) < 8
   conjuncts_end g.no_more ends = omega arith
@@ -632,7 +654,7 @@ module _ (jml : Bool) (ts : List Token) where
         (under_found q 1 (n + 1) o body (λ c. found z c) (omega arith) (ends_by o k.CloseParen 1 close (omega arith)))
         close
     found (g.field {q = q} {i = i} {j = j} {a = a} x d n) c = field_found c q i j a (found x c) d n
-    found (g.invoked {q = q} {i = i} {j = j} {m = m} {a = a} {es = es} mode x d n o y) c = invoked_found c q i j m a es (arguments_far y) mode (found x c) d n o (found_arguments y c)
+    found (g.invoked {q = q} {i = i} {j = j} {m = m} {a = a} {es = es} mode x d n o y) c = invoked_found c q i j m a es (arguments_far y) mode (found x c) d n o (arguments_no_text y) (found_arguments y c)
     found (g.indexed {q = q} {i = i} {j = j} {m = m} {a = a} {b = b} x f o y z) c = indexed_found c q i j m a b (spelled_far y) (found x c) f o (under_found q 1 (j + 1) m b (λ c. found y c) (omega arith) (ends_by m k.CloseBracket 1 z (omega arith))) z
     found (g.with_postfix {q = q} {i = i} {j = j} {a = a} {op = op} x h) c = postfix_found c q i j a op (found x c) h
     found (g.with_prefix {q = q} {i = i} {j = j} {a = a} {op = op} h x) c = prefix_found c q i j a op h (opens jml ts x) (λ s. under_found q 16 (i + 1) j a (λ c. found x c) (omega arith) s)
@@ -648,7 +670,7 @@ module _ (jml : Bool) (ts : List Token) where
     found_arguments (g.none {q = q} {i = i} h) c = none_agrees c q i h
     found_arguments (g.some {q = q} {i = i} {j = j} {es = es} x h) c = some_agrees c q i j es (listed_starts x) (found_listed x c (length ts) [] (omega arith) (ends_by j k.CloseParen 1 h (omega arith)) (not_comma j h)) h
 
-    found_listed : {q i j : ℕ} {es : List Expr} → Listed jml ts q i es j → (c n : ℕ) (before : List Expr) → length ts ≤ n + i → reach (seen jml ts j) < 1 → (seen jml ts j ≡ k.Comma → ⊥) → Agrees (suc c) (nesting_in (exprs es)) (r.listed jml ts c (r.nested jml ts c) q n before i) (before ++ es, j)
+    found_listed : {q i j : ℕ} {es : List Expr} → Listed jml ts q i es j → (c n : ℕ) (before : List Expr) → length ts ≤ n + i → reach (seen jml ts j) < 1 → (seen jml ts j ≡ k.Comma → ⊥) → Agrees (suc c) (nesting_in (exprs es)) (r.expressions jml ts c (r.nested jml ts c) q n before i) (before ++ es, j)
     found_listed (g.last x) c zero before le ends z = absurd (let f = advances jml ts x in omega arith)
     found_listed (g.last {q = q} {i = i} {j = j} {a = a} x) c (suc n) before le ends z = last_agrees c q n before i j a (under_found q 1 i j a (λ c. found x c) (omega arith) ends) z
     found_listed (g.more x h y) c zero before le ends z = absurd (let f = advances jml ts x in omega arith)

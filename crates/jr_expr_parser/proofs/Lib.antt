@@ -1,10 +1,11 @@
-pub mod Places
 pub mod More
-pub mod Turns
 pub mod Unrolled
 pub mod Shallow
 pub mod Whole
 pub mod Tokens
+pub mod Free
+pub mod Causes
+pub mod SoundPrimaries
 pub mod Sound
 pub mod Agrees
 pub mod Complete

@@ -6,8 +6,10 @@ use Rattle.jr_lexer.specs.Token.{Token}
 use Rattle.jr_ast.specs.Expressions.{Expr}
 use Rattle.jr_expr_parser.specs.declared.read.Read.{Read}
 use Rattle.jr_expr_parser.specs.Nesting.{nesting}
-use Rattle.jr_expr_parser.specs.Reading.{Outcome, nested}
-use Rattle.jr_expr_parser.proofs.Sound.{Good, Spelt, read_good}
+use Rattle.jr_reading.specs.Outcomes.{Outcome}
+use Rattle.jr_expr_parser.specs.Reader.{nested}
+use Rattle.jr_expr_parser.proofs.Causes.{Good, Spelt}
+use Rattle.jr_expr_parser.proofs.Sound.{read_good}
 use Rattle.jr_expr_parser.specs.Nests.{Reads, view_read}
 
 shallow_by : (jml : Bool) (ts : List Token) (room q l i : ℕ) (o : Outcome Expr) (x : Expr × ℕ) → o ≡ Ok x → Good jml ts (Spelt jml ts room q l i) room i o → nesting x.0 < room

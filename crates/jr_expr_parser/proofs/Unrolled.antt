@@ -9,12 +9,14 @@ use Rattle.jr_ast.specs.Expressions.{Expr}
 use Rattle.jr_expr_parser.specs.declared.operators.Grouping.{Grouping}
 use Rattle.jr_expr_parser.specs.declared.read.Read.{Read}
 use Rattle.jr_expr_parser.specs.Operators.{grouping_of}
-use Rattle.jr_expr_parser.specs.Reading.{Outcome, refusal_at, quantified, quantified_in, grouped, levels, nested}
+use Rattle.jr_reading.specs.Outcomes.{Outcome}
+use Rattle.jr_reading.specs.Steps.{refusal_at}
+use Rattle.jr_expr_parser.specs.Reader.{quantified, quantified_in, grouped, levels, nested}
 use Rattle.jr_expr_parser.specs.Nests.{Reads}
 
 module _ (jml : Bool) (ts : List Token) where
   module _ (room : ℕ) (nest : ℕ → ℕ → ℕ → Outcome Expr) where
-    pub no_quantifier : (q : ℕ) (x : Quantifier) (i : ℕ) → q ≡ 0 → quantified jml ts room nest q x i ≡ Err (refusal_at jml ts (i + 1))
+    pub no_quantifier : (q : ℕ) (x : Quantifier) (i : ℕ) → q ≡ 0 → quantified jml ts room nest q x i ≡ Err (refusal_at ts (i + 1))
     unfolding quantified
     no_quantifier q x i e = ap (λ n. quantified jml ts room nest n x i) e
 

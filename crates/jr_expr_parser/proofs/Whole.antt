@@ -5,20 +5,23 @@ use Rattle.jr_base.specs.declared.refusal.Refusal.{Refusal}
 use Rattle.jr_base.specs.declared.refusal.Refusal.TheVariants as refusal
 use Rattle.jr_lexer.specs.Token.{Token}
 use Rattle.jr_ast.specs.Expressions.{Expr}
-use Rattle.jr_expr_parser.specs.Seen.{seen}
+use Rattle.jr_reading.specs.Seen.{seen}
+use Rattle.jr_reading.specs.Limits.{nesting_limit}
 use Rattle.jr_expr_parser.specs.Operators.{reach}
 use Rattle.jr_expr_parser.specs.Nesting.{nesting}
 use Rattle.jr_expr_parser.specs.Grammar.{Stands}
 use Rattle.jr_base.specs.declared.refusal.Fail.{Fail}
 use Rattle.jr_base.specs.declared.refusal.Fail.TheVariants.{Memory, Refused}
 use Rattle.jr_expr_parser.specs.Answers.{Refuses, Fits, OneTree}
-use Rattle.jr_expr_parser.specs.Reading.{Outcome, ◌>>=◌, standing}
+use Rattle.jr_reading.specs.Outcomes.{Outcome}
+use Rattle.jr_expr_parser.specs.Reader.{standing}
 use Rattle.jr_expr_parser.specs.declared.read.Read.{Read}
 use Rattle.jr_expr_parser.specs.Nests.{Reads, Fitting, view_read}
-use Rattle.jr_expr_parser.specs.Reading as r
+use Rattle.jr_expr_parser.specs.Reader as r
 use Rattle.jr_expr_parser.proofs.Tokens.{advances}
 use Rattle.jr_expr_parser.proofs.Agrees.{Agrees, on, if_true, comes_to, opens}
-use Rattle.jr_expr_parser.proofs.Sound.{Good, Cause, Spelt, then, if_good, refused, read_good}
+use Rattle.jr_expr_parser.proofs.Causes.{Good, Cause, Spelt, then, if_good, refused}
+use Rattle.jr_expr_parser.proofs.Sound.{read_good}
 use Rattle.jr_expr_parser.proofs.Complete.{found, complete, follows_end, stopped, trailed}
 
 module _ (jml : Bool) (ts : List Token) where
@@ -49,19 +52,19 @@ module _ (jml : Bool) (ts : List Token) where
   agrees_at : (room l i j : ℕ) (a : Expr) (o : Outcome Expr) → l ≤ 16 → standing jml ts room l i ≡ o → Stands jml ts l i a j → Agrees room (nesting a) o (a, j)
   agrees_at room l i j a o low e s = subst (λ (o : Outcome Expr). Agrees room (nesting a) o (a, j)) e (standing_agrees room l i j a low s)
 
-  room_of : (depth : ℕ) (l i : ℕ) (o : Outcome Expr) → standing jml ts (128 - depth + 1) l i ≡ o → standing jml ts (suc (128 - depth)) l i ≡ o
-  room_of depth l i o e = let n : suc (128 - depth) ≡ 128 - depth + 1 = omega arith in ap (λ n. standing jml ts n l i) n ∙ e
+  room_of : (depth : ℕ) (l i : ℕ) (o : Outcome Expr) → standing jml ts (nesting_limit - depth + 1) l i ≡ o → standing jml ts (suc (nesting_limit - depth)) l i ≡ o
+  room_of depth l i o e = let n : suc (nesting_limit - depth) ≡ nesting_limit - depth + 1 = omega arith in ap (λ n. standing jml ts n l i) n ∙ e
 
-  pub fits : (l i depth : ℕ) (x : Expr × ℕ) → l ≤ 16 → depth ≤ 128 → standing jml ts (128 - depth + 1) l i ≡ Ok x → Fits jml ts l i depth x.0 x.1
+  pub fits : (l i depth : ℕ) (x : Expr × ℕ) → l ≤ 16 → depth ≤ nesting_limit → standing jml ts (nesting_limit - depth + 1) l i ≡ Ok x → Fits jml ts l i depth x.0 x.1
   fits l i depth x low le e =
-      let h = good_at (128 - depth) l i (Ok x) low (room_of depth l i (Ok x) e) in
+      let h = good_at (nesting_limit - depth) l i (Ok x) low (room_of depth l i (Ok x) e) in
       let s = h.shallow in
       record { stands = h.stands; shallow = omega arith }
 
-  pub refuses : (l i depth : ℕ) (f : Refusal) → l ≤ 16 → depth ≤ 128 → standing jml ts (128 - depth + 1) l i ≡ Err f → Refuses jml ts l i depth f
-  refuses l i depth f low le e = go f (good_at (128 - depth) l i (Err f) low (room_of depth l i (Err f) e)) (λ a j s. agrees_at (128 - depth + 1) l i j a (Err f) low e s)
+  pub refuses : (l i depth : ℕ) (f : Refusal) → l ≤ 16 → depth ≤ nesting_limit → standing jml ts (nesting_limit - depth + 1) l i ≡ Err f → Refuses jml ts l i depth f
+  refuses l i depth f low le e = go f (good_at (nesting_limit - depth) l i (Err f) low (room_of depth l i (Err f) e)) (λ a j s. agrees_at (nesting_limit - depth + 1) l i j a (Err f) low e s)
     where
-      go : (f : Refusal) → Cause jml ts (suc (128 - depth)) i f → ((a : Expr) (j : ℕ) → Stands jml ts l i a j → Agrees {A = Expr × ℕ} (128 - depth + 1) (nesting a) (Err f) (a, j)) → Refuses jml ts l i depth f
+      go : (f : Refusal) → Cause jml ts (suc (nesting_limit - depth)) i f → ((a : Expr) (j : ℕ) → Stands jml ts l i a j → Agrees {A = Expr × ℕ} (nesting_limit - depth + 1) (nesting a) (Err f) (a, j)) → Refuses jml ts l i depth f
       go (refusal.Syntax s) h agrees = agrees
       go (refusal.NotInProfile s) h agrees = (agrees, h)
       go (refusal.BigLiteral s) h agrees = (agrees, h)
@@ -111,7 +114,7 @@ module _ (jml : Bool) (ts : List Token) where
 
 -- ---- what is answered
 
-pub reads_fit : (jml : Bool) (ts : List Token) (l i depth : ℕ) (r : Result (Read × ℕ) Fail) → l ≤ 16 → depth ≤ 128 → Reads (standing jml ts (128 - depth + 1) l i) r → Fitting jml ts l i depth r
+pub reads_fit : (jml : Bool) (ts : List Token) (l i depth : ℕ) (r : Result (Read × ℕ) Fail) → l ≤ 16 → depth ≤ nesting_limit → Reads (standing jml ts (nesting_limit - depth + 1) l i) r → Fitting jml ts l i depth r
 reads_fit jml ts l i depth (Ok x) low le e = fits jml ts l i depth (view_read x.0, x.1) low le e
 reads_fit jml ts l i depth (Err Memory) low le e = tt
 reads_fit jml ts l i depth (Err (Refused f)) low le e = refuses jml ts l i depth f low le e

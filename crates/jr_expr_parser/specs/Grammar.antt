@@ -15,11 +15,12 @@ use Rattle.jr_ast.specs.declared.expr.Quantifier.{Quantifier}
 use Rattle.jr_ast.specs.Expressions.{Expr, exprs}
 use Rattle.jr_ast.specs.Expressions as e
 use Rattle.jr_expr_parser.specs.declared.operators.Grouping.TheVariants.{Once, ToTheLeft}
-use Rattle.jr_expr_parser.specs.Seen.{seen, name_at, literal_at}
-use Rattle.jr_expr_parser.specs.Operators.{prefix_of, postfix_of, infix_of, assignment_of, bound_of, quantifier_of, element_of, reach, grouping_of}
+use Rattle.jr_reading.specs.Seen.{seen, name_at, literal_at}
+use Rattle.jr_reading.specs.Types.{element_of}
+use Rattle.jr_expr_parser.specs.Operators.{prefix_of, postfix_of, infix_of, assignment_of, bound_of, quantifier_of, reach, grouping_of}
 use Rattle.jr_expr_parser.specs.Nesting.{is_new_array, is_implied_by}
 
--- Spells jml ts q l i e j: the tokens from place i up to place j spell e at level l, in a clause where jml
+-- Spells jml ts q l i e j: the tokens from index i up to index j spell e at level l, in a clause where jml
 -- is true, with quantifiers nested at most q deep.
 mutual
   pub data Spells (jml : Bool) (ts : List Token) : ℕ → ℕ → ℕ → Expr → ℕ → Type 0 where
@@ -85,12 +86,12 @@ mutual
     no_more : {q i : ℕ} → Conjuncts jml ts q i [] i
     one_more : {q i j m : ℕ} {a : Expr} {es : List Expr} → seen jml ts i ≡ k.AndAnd → Spells jml ts q 8 (i + 1) a j → Conjuncts jml ts q j es m → Conjuncts jml ts q i (a ∷ es) m
 
--- An expression of a level ends before place j: the token there is no operator of the level or a later one
+-- An expression of a level ends before index j: the token there is no operator of the level or a later one
 -- that has an operand on its left, and no `.`, `[` or `(`.
 abbrev pub Ends : Bool → List Token → ℕ → ℕ → Type 0
 Ends jml ts l j = reach (seen jml ts j) < l
 
--- An expression of a level stands at place i, up to place j, with quantifiers nested at most two deep.
+-- An expression of a level stands at index i, up to index j, with quantifiers nested at most two deep.
 pub record Stands (jml : Bool) (ts : List Token) (l i : ℕ) (a : Expr) (j : ℕ) : Type 0 where
   pub spelled : Spells jml ts 2 l i a j
   pub ends : Ends jml ts l j

@@ -1,9 +1,8 @@
-pub mod Seen
 pub mod Operators
 pub mod Nesting
 pub mod Grammar
+pub mod BigLiteral
 pub mod Answers
-pub mod Within
 pub mod Primaries
 pub mod Nests
-pub mod Reading
+pub mod Reader

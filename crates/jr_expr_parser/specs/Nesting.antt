@@ -5,8 +5,8 @@ use Rattle.jr_ast.specs.Expressions.{Expr, Exprs, no_expr, and_expr}
 use Rattle.jr_ast.specs.Expressions as e
 
 -- The greatest number of constructs above a node: operators, brackets, calls, `new`, indexes, `\old`,
--- `\lockset` and quantifiers. A field counts nothing, and a call or an index counts for what stands to its
--- left too.
+-- `\lockset` and quantifiers. A call or an index counts for what stands to its left too. A field counts
+-- nothing, nor do the signs and the `&&` of a quantifier's range, and `\lockset.has(e)` counts once.
 abbrev mutual
   pub nesting : Expr → ℕ
   nesting (e.Null at) = 0

@@ -1,12 +1,9 @@
 -- The operators, by level (JLS 15; JML Reference Manual, "Expressions"). 1 binds loosest: assignments 1,
 -- `? :` 2, `<==>` 3, `==>` 4, `<==` 5, `||` 6, `&&` 7, `|` 8, `^` 9, `&` 10, `==` 11, order 12, shifts 13,
 -- sums 14, products 15, prefixes 16, `++` and `--` behind their operand 17, and primaries 18.
-use Rattle.std.specs.Prelude.{ℕ, Bool, cond, if◌then◌else◌, ◌==◌, Option, Some, None}
+use Rattle.std.specs.Prelude.{ℕ, Bool, true, false, not, cond, if◌then◌else◌, ◌==◌, Option, Some, None}
 use Rattle.jr_lexer.specs.declared.kind.Kind.{Kind}
 use Rattle.jr_lexer.specs.declared.kind.Kind.TheVariants as k
-use Rattle.jr_ast.specs.declared.name.Name.{Name}
-use Rattle.jr_ast.specs.declared.name.ElementType.{ElementType}
-use Rattle.jr_ast.specs.declared.name.ElementType.TheVariants as element
 use Rattle.jr_ast.specs.declared.operator.Prefix.{Prefix}
 use Rattle.jr_ast.specs.declared.operator.Prefix.TheVariants as prefixes
 use Rattle.jr_ast.specs.declared.operator.Postfix.{Postfix}
@@ -142,10 +139,11 @@ quantifier_of k.BackslashForall = Some quantifiers.ForAll
 quantifier_of k.BackslashExists = Some quantifiers.Exists
 quantifier_of _ = None
 
--- the elements of an array that is made: a type of no array, of which a class is written by its name
-abbrev pub element_of : Kind → Name → Option ElementType
-element_of k.Int name = Some element.Int
-element_of k.Long name = Some element.Long
-element_of k.Boolean name = Some element.Boolean
-element_of k.Name name = Some (element.Class name)
-element_of _ name = None
+-- What makes an expression that stands before it the operand of another operator than a `-` in front: `++` and
+-- `--` behind their operand, in code alone, `.` and `[`.
+abbrev pub extends : Bool → Kind → Bool
+extends jml k.PlusPlus = not jml
+extends jml k.MinusMinus = not jml
+extends jml k.Dot = true
+extends jml k.OpenBracket = true
+extends jml _ = false

@@ -2,6 +2,7 @@
 
 ghost use Rattle.std.specs.Prelude.{◌≡◌, ◌≤◌, map};
 ghost use Rattle.jr_ast.specs.Expressions.{exprs, view_expr};
+ghost use Rattle.jr_reading.specs.Limits.{nesting_limit};
 ghost use Rattle.jr_expr_parser.specs.Nesting.{nesting_in};
 
 use jr_ast::Expr;
@@ -14,5 +15,5 @@ pub struct Listing {
     /// Their nesting under what they belong to.
     pub height: u8,
     ghost tall: { height ≡ nesting_in (exprs (map view_expr items)) },
-    ghost low: { height ≤ 128 },
+    ghost low: { height ≤ nesting_limit },
 }

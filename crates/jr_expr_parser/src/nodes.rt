@@ -3,8 +3,9 @@
 ghost use Rattle.std.specs.Prelude.{◌≡◌, ◌≤◌, ◌<◌, ◌++◌, ◌∷◌, [], true, false, Ok, IfOk};
 ghost use Rattle.jr_ast.specs.Expressions.{exprs, view_expr, view_shape};
 ghost use Rattle.jr_ast.specs.Expressions as e;
+ghost use Rattle.jr_reading.specs.Limits.{nesting_limit};
 ghost use Rattle.jr_expr_parser.specs.Nesting.{nesting, nesting_in, is_implied_by, is_new_array};
-ghost use Rattle.jr_expr_parser.specs.Reading as reading;
+ghost use Rattle.jr_expr_parser.specs.Reader as reader;
 ghost use Rattle.jr_expr_parser.specs.Nests.{Makes, MakesAs, view_list, view_primary, view_read};
 
 use crate::listing::Listing;
@@ -31,7 +32,7 @@ pub fn no_expr(alloc: Global) -> Listing
 /// The list with one expression more.
 #[tactic(auto, using(crate::proofs::More::nesting_more, crate::proofs::More::view_more))]
 pub fn and_expr(list: Listing, read: Read) -> Result<Listing, Memory>
-    requires { nesting (view_read read) < 128 }
+    requires { nesting (view_read read) < nesting_limit }
     ensures { IfOk result (λ all. view_list all ≡ view_list list ++ view_read read ∷ []) }
 {
     let height = list.height.max(read.height + 1);
@@ -61,7 +62,7 @@ pub fn leaf(alloc: Global, place: Span, shape: Shape) -> Primary
 fn over(alloc: Global, place: Span, shape: Shape, height: u8) -> Primary
     requires placed { e.place_of (view_shape shape place) ≡ place }
     requires tall { height ≡ nesting (view_shape shape place) }
-    requires low { height ≤ 128 }
+    requires low { height ≤ nesting_limit }
     requires array { is_new_array (view_shape shape place) ≡ false }
     requires chain { is_implied_by (view_shape shape place) ≡ false }
     ensures { view_primary result ≡ view_shape shape place }
@@ -76,7 +77,7 @@ fn over(alloc: Global, place: Span, shape: Shape, height: u8) -> Primary
 }
 
 pub fn bracketed(alloc: Global, place: Span, a: Read) -> Primary
-    requires { nesting (view_read a) < 128 }
+    requires { nesting (view_read a) < nesting_limit }
     ensures { view_primary result ≡ e.Brackets place (view_read a) }
 {
     let height = a.height + 1;
@@ -84,7 +85,7 @@ pub fn bracketed(alloc: Global, place: Span, a: Read) -> Primary
 }
 
 pub fn old(alloc: Global, place: Span, a: Read) -> Primary
-    requires { nesting (view_read a) < 128 }
+    requires { nesting (view_read a) < nesting_limit }
     ensures { view_primary result ≡ e.Old place (view_read a) }
 {
     let height = a.height + 1;
@@ -92,7 +93,7 @@ pub fn old(alloc: Global, place: Span, a: Read) -> Primary
 }
 
 pub fn in_lockset(alloc: Global, place: Span, a: Read) -> Primary
-    requires { nesting (view_read a) < 128 }
+    requires { nesting (view_read a) < nesting_limit }
     ensures { view_primary result ≡ e.InLockset place (view_read a) }
 {
     let height = a.height + 1;
@@ -124,7 +125,7 @@ pub fn new_object(alloc: Global, place: Span, class: Name, arguments: Listing) -
 }
 
 pub fn new_array(alloc: Global, place: Span, element: ElementType, size: Read) -> Primary
-    requires { nesting (view_read size) < 128 }
+    requires { nesting (view_read size) < nesting_limit }
     ensures { view_primary result ≡ e.NewArray place element (view_read size) }
 {
     let height = size.height + 1;
@@ -150,9 +151,9 @@ pub struct Quantification {
 }
 
 pub fn quantified(alloc: Global, place: Span, parts: Quantification) -> Result<Primary, Memory>
-    requires low { nesting (view_read parts.low) < 128 }
-    requires high { nesting (view_read parts.high) < 128 }
-    requires body { nesting (view_read parts.body) < 128 }
+    requires low { nesting (view_read parts.low) < nesting_limit }
+    requires high { nesting (view_read parts.high) < nesting_limit }
+    requires body { nesting (view_read parts.body) < nesting_limit }
     ensures { IfOk result (λ p. view_primary p ≡ e.Quantified place parts.quantifier parts.variable (view_read parts.low) parts.bounds.0 (view_read parts.high) parts.bounds.1 (exprs (view_list parts.conjuncts)) (view_read parts.body)) }
 {
     let inner = parts
@@ -197,15 +198,15 @@ pub fn field(primary: Primary, name: Name) -> Result<Primary, Memory>
 }
 
 /// `.name(..)` behind a primary.
-#[tactic(auto, using(crate::proofs::More::invocation_more), unfolding(crate::specs::Reading::fits))]
+#[tactic(auto, using(crate::proofs::More::invocation_more), unfolding(crate::specs::Reader::fits))]
 pub fn invocation(
     primary: Primary,
     name: Name,
     arguments: Listing,
     room: u8,
 ) -> Result<Primary, Fail>
-    requires { room ≤ 128 }
-    ensures { MakesAs view_primary (reading.fits room (e.place_of (view_primary primary)) (e.CallOf (e.place_of (view_primary primary)) (view_primary primary) name (exprs (view_list arguments)))) result }
+    requires { room ≤ nesting_limit }
+    ensures { MakesAs view_primary (reader.fits room (e.place_of (view_primary primary)) (e.CallOf (e.place_of (view_primary primary)) (view_primary primary) name (exprs (view_list arguments)))) result }
 {
     let Primary {
         place,
@@ -229,10 +230,10 @@ pub fn invocation(
 }
 
 /// `[e]` behind a primary.
-#[tactic(auto, using(crate::proofs::More::index_more), unfolding(crate::specs::Reading::fits))]
+#[tactic(auto, using(crate::proofs::More::index_more), unfolding(crate::specs::Reader::fits))]
 pub fn index(primary: Primary, index: Read, room: u8) -> Result<Primary, Fail>
-    requires { room ≤ 128 }
-    ensures { MakesAs view_primary (reading.fits room (e.place_of (view_primary primary)) (e.ElementOf (e.place_of (view_primary primary)) (view_primary primary) (view_read index))) result }
+    requires { room ≤ nesting_limit }
+    ensures { MakesAs view_primary (reader.fits room (e.place_of (view_primary primary)) (e.ElementOf (e.place_of (view_primary primary)) (view_primary primary) (view_read index))) result }
 {
     let Primary {
         place,
@@ -269,7 +270,7 @@ pub fn suffixed(alloc: Global, primary: Primary) -> Result<Read, Memory>
 }
 
 /// The node, where it nests within the room.
-#[tactic(auto, unfolding(crate::specs::Reading::fits))]
+#[tactic(auto, unfolding(crate::specs::Reader::fits))]
 fn within(
     alloc: Global,
     place: Span,
@@ -280,8 +281,8 @@ fn within(
 ) -> Result<Read, Fail>
     requires tall { height ≡ nesting (view_shape shape place) }
     requires chain { implied_by ≡ is_implied_by (view_shape shape place) }
-    requires room { room ≤ 128 }
-    ensures { Makes (reading.fits room place (view_shape shape place)) result }
+    requires room { room ≤ nesting_limit }
+    ensures { Makes (reader.fits room place (view_shape shape place)) result }
 {
     if height > room {
         return Err(Fail::Refused(Refusal::TooDeep(place)));
@@ -296,8 +297,8 @@ fn within(
 
 /// An operator behind its operand.
 pub fn postfixed(alloc: Global, place: Span, op: Postfix, a: Read, room: u8) -> Result<Read, Fail>
-    requires { room ≤ 128 }
-    ensures { Makes (reading.fits room place (e.Postfixed place op (view_read a))) result }
+    requires { room ≤ nesting_limit }
+    ensures { Makes (reader.fits room place (e.Postfixed place op (view_read a))) result }
 {
     let height = a.height + 1;
     within(
@@ -312,7 +313,7 @@ pub fn postfixed(alloc: Global, place: Span, op: Postfix, a: Read, room: u8) -> 
 
 /// An operator before its operand.
 pub fn prefixed(alloc: Global, place: Span, op: Prefix, a: Read) -> Result<Read, Memory>
-    requires { nesting (view_read a) < 128 }
+    requires { nesting (view_read a) < nesting_limit }
     ensures { IfOk result (λ r. view_read r ≡ e.Prefixed place op (view_read a)) }
 {
     let height = a.height + 1;
@@ -332,8 +333,8 @@ pub fn least(
     literal: IntegerLiteral,
     room: u8,
 ) -> Result<Read, Fail>
-    requires { room ≤ 128 }
-    ensures { Makes (reading.fits room place (e.Prefixed place Prefix.Negate (e.Integer behind literal))) result }
+    requires { room ≤ nesting_limit }
+    ensures { Makes (reader.fits room place (e.Prefixed place Prefix.Negate (e.Integer behind literal))) result }
 {
     let integer = Expr::new(alloc, behind, Shape::Integer(literal))?;
     within(
@@ -355,8 +356,8 @@ pub fn infixed(
     b: Read,
     room: u8,
 ) -> Result<Read, Fail>
-    requires { room ≤ 128 }
-    ensures { Makes (reading.fits room place (e.Infixed place op (view_read a) (view_read b))) result }
+    requires { room ≤ nesting_limit }
+    ensures { Makes (reader.fits room place (e.Infixed place op (view_read a) (view_read b))) result }
 {
     let height = a.height.max(b.height) + 1;
     let implied_by = matches!(op, Infix::ImpliedBy);
@@ -379,8 +380,8 @@ pub fn conditional(
     other: Read,
     room: u8,
 ) -> Result<Read, Fail>
-    requires { room ≤ 128 }
-    ensures { Makes (reading.fits room place (e.Conditional place (view_read condition) (view_read one) (view_read other))) result }
+    requires { room ≤ nesting_limit }
+    ensures { Makes (reader.fits room place (e.Conditional place (view_read condition) (view_read one) (view_read other))) result }
 {
     let height = condition.height.max(one.height.max(other.height)) + 1;
     let shape = Shape::Conditional(condition.tree, one.tree, other.tree);
@@ -396,8 +397,8 @@ pub fn assignment(
     value: Read,
     room: u8,
 ) -> Result<Read, Fail>
-    requires { room ≤ 128 }
-    ensures { Makes (reading.fits room place (e.Assignment place op (view_read target) (view_read value))) result }
+    requires { room ≤ nesting_limit }
+    ensures { Makes (reader.fits room place (e.Assignment place op (view_read target) (view_read value))) result }
 {
     let height = target.height.max(value.height) + 1;
     let shape = Shape::Assignment(op, target.tree, value.tree);

@@ -1,7 +1,6 @@
 //! The operators and their levels.
 
 ghost use Rattle.std.specs.Prelude.{◌≡◌};
-ghost use Rattle.jr_expr_parser.specs.Answers as answers;
 ghost use Rattle.jr_expr_parser.specs.Operators as table;
 
 use jr_ast::{AssignOp, Bound, Infix, Postfix, Prefix, Quantifier};
@@ -174,47 +173,14 @@ pub fn quantifier_of(kind: Kind) -> Option<Quantifier>
     }
 }
 
-/// Whether a word or sign begins a form that is left out.
-pub fn left_out(jml: bool, kind: Kind) -> bool
-    ensures { result ≡ answers.left_out jml kind }
+/// Whether a token makes what stands before it the operand of another than the `-` in front: `++` and `--` of
+/// code, `.` and `[`.
+pub fn extends(jml: bool, kind: Kind) -> bool
+    ensures { result ≡ table.extends jml kind }
 {
     match kind {
-        Kind::Switch
-        | Kind::Case
-        | Kind::Default
-        | Kind::Finally
-        | Kind::Instanceof
-        | Kind::Interface
-        | Kind::Enum
-        | Kind::Abstract
-        | Kind::Native
-        | Kind::Transient
-        | Kind::Strictfp
-        | Kind::Super
-        | Kind::Float
-        | Kind::Double
-        | Kind::Char
-        | Kind::Byte
-        | Kind::Short
-        | Kind::Goto
-        | Kind::Const
-        | Kind::Arrow => true,
-        Kind::Assert => !jml,
-        Kind::Signals
-        | Kind::Also
-        | Kind::Model
-        | Kind::Ghost
-        | Kind::Set
-        | Kind::Assume
-        | Kind::NormalBehavior
-        | Kind::ExceptionalBehavior
-        | Kind::LoopInvariant
-        | Kind::Maintaining
-        | Kind::Decreases
-        | Kind::Represents
-        | Kind::BackslashMax
-        | Kind::BackslashSum
-        | Kind::BackslashNumOf => jml,
+        Kind::PlusPlus | Kind::MinusMinus => !jml,
+        Kind::Dot | Kind::OpenBracket => true,
         _ => false,
     }
 }

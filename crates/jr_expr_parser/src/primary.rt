@@ -2,6 +2,7 @@
 
 ghost use Rattle.std.specs.Prelude.{◌≡◌, ◌≤◌, false};
 ghost use Rattle.jr_ast.specs.Expressions.{place_of};
+ghost use Rattle.jr_reading.specs.Limits.{nesting_limit};
 ghost use Rattle.jr_expr_parser.specs.Primaries.{whole};
 ghost use Rattle.jr_expr_parser.specs.Nesting.{nesting, is_implied_by, is_new_array};
 
@@ -21,7 +22,7 @@ pub struct Primary {
     pub new_array: bool,
     ghost placed: { place_of (whole place shape suffixes) ≡ place },
     ghost tall: { height ≡ nesting (whole place shape suffixes) },
-    ghost low: { height ≤ 128 },
+    ghost low: { height ≤ nesting_limit },
     ghost array: { new_array ≡ is_new_array (whole place shape suffixes) },
     ghost chain: { is_implied_by (whole place shape suffixes) ≡ false },
 }

@@ -1,4 +1,4 @@
-ghost use Rattle.std.specs.Prelude.{◌≡◌, ◌≤◌, ◌⊎◌};
+ghost use Rattle.std.specs.Prelude.{◌≤◌};
 
 use super::*;
 use jr_ast::{
@@ -257,10 +257,9 @@ fn tell_refused(out: &mut String, refused: Refused) -> Result<(), test::Fail> {
     Ok(())
 }
 
-/// The expression that stands first in a text, and the place behind it, or the refusal and the byte at which
+/// The expression that stands first in a text, and the index behind it, or the refusal and the byte at which
 /// it stands. A text that begins `//@` is a clause.
-fn told(alloc: Global, text: &[u8], level: u8, depth: u8) -> Result<String, test::Fail>
-    requires level { (level ≡ 1) ⊎ (level ≡ 11) }
+fn told(alloc: Global, text: &[u8], level: Level, depth: u8) -> Result<String, test::Fail>
     requires depth { depth ≤ 128 }
 {
     let mut out = String::new(alloc);
@@ -297,7 +296,7 @@ fn told(alloc: Global, text: &[u8], level: u8, depth: u8) -> Result<String, test
 /// Each row is a text, and what `told` says of it.
 fn check(rt: &impl Abort, alloc: Global, rows: &[(&[u8], &[u8])]) -> Result<(), test::Fail> {
     for (text, want) in rows {
-        let got = told(alloc, text, 1, 0)?;
+        let got = told(alloc, text, Level::Any, 0)?;
         assert!(rt; got.as_bytes() == *want, "{got}");
     }
     Ok(())
@@ -343,7 +342,7 @@ static CODE: [(&[u8], &[u8]); 45] = [
     (b"new boolean(1)", b"Syntax 4"),
     (b"C.class.x", b"C.class.x 5"),
     (b"this.a", b"this.a 3"),
-    (b"a.", b"Syntax 1"),
+    (b"a.", b"Syntax 2"),
     (b"1 (", b"Syntax 2"),
     (b"a b", b"a 1"),
     (b"a //@ + b", b"a 1"),
@@ -374,6 +373,57 @@ fn reads_code(rt: HostRuntime) -> Result<(), test::Fail> {
     check(&rt, rt.alloc(), &CODE)
 }
 
+/// What stands behind a dot, and a chain of `<==` behind `==>`: the token at fault is named, and as left out
+/// where it is.
+static NAMED: [(&[u8], &[u8]); 15] = [
+    (b"x.super", b"NotInProfile 2"),
+    (b"f(y.goto + 1)", b"NotInProfile 4"),
+    (b"a.b().switch", b"NotInProfile 6"),
+    (b"a.(b)", b"Syntax 2"),
+    (b"a[0].1", b"Syntax 5"),
+    (b"new A.super()", b"NotInProfile 6"),
+    (b"new A.B()", b"Syntax 5"),
+    (b"x.print", b"x.print 3"),
+    (b"System.out.print(1)", b"System.out.print( 1) 8"),
+    (b"System.out.print(\"1\")", b"NotInProfile 11"),
+    (b"System.out.printf(\"1\")", b"Syntax 18"),
+    (b"//@ x.assume", b"NotInProfile 6"),
+    (b"//@ a ==> b <== c <== d", b"Syntax 12"),
+    (b"//@ a ==> b ==> c || d <== e", b"Syntax 23"),
+    (b"//@ (a ==> b.c <== d) && e", b"Syntax 15"),
+];
+
+#[test]
+fn names_the_token_at_fault(rt: HostRuntime) -> Result<(), test::Fail> {
+    check(&rt, rt.alloc(), &NAMED)
+}
+
+/// The big literal of a type, which is itself the operand of a unary minus or not.
+static BIG: [(&[u8], &[u8]); 14] = [
+    (b"-2147483648++", b"BigLiteral 1"),
+    (b"-2147483648--", b"BigLiteral 1"),
+    (b"-2147483648.f", b"BigLiteral 1"),
+    (b"-2147483648[0]", b"BigLiteral 1"),
+    (b"f(-9223372036854775808L.g())", b"BigLiteral 3"),
+    (b"- -2147483648", b"{Negate {Negate 2147483648}} 3"),
+    (
+        b"-2147483648 - -2147483648",
+        b"{Subtract {Negate 2147483648} {Negate 2147483648}} 5",
+    ),
+    (b"-2147483648 - 2147483648", b"BigLiteral 14"),
+    (b"(a) - 2147483648", b"BigLiteral 6"),
+    (b"a++ - 2147483648", b"BigLiteral 6"),
+    (b"-2147483648(", b"Syntax 11"),
+    (b"-2147483648L", b"{Negate 2147483648L} 2"),
+    (b"//@ -2147483648++", b"Syntax 15"),
+    (b"//@ -2147483648[0] == 1", b"BigLiteral 5"),
+];
+
+#[test]
+fn reads_big_literals(rt: HostRuntime) -> Result<(), test::Fail> {
+    check(&rt, rt.alloc(), &BIG)
+}
+
 static CLAUSES: [(&[u8], &[u8]); 32] = [
     (
         b"//@ a <==> b <=!=> c",
@@ -381,7 +431,7 @@ static CLAUSES: [(&[u8], &[u8]); 32] = [
     ),
     (b"//@ a ==> b ==> c", b"{Implies a {Implies b c}} 5"),
     (b"//@ a <== b <== c", b"{ImpliedBy {ImpliedBy a b} c} 5"),
-    (b"//@ a ==> b <== c", b"Syntax 6"),
+    (b"//@ a ==> b <== c", b"Syntax 12"),
     (b"//@ a <== b ==> c", b"Syntax 12"),
     (b"//@ a ==> (b <== c)", b"{Implies a ({ImpliedBy b c})} 7"),
     (b"//@ (a <== b) ==> c", b"{Implies ({ImpliedBy a b}) c} 7"),
@@ -440,7 +490,7 @@ fn reads_clauses(rt: HostRuntime) -> Result<(), test::Fail> {
 
 #[test]
 fn reads_the_part_of_a_sum(rt: HostRuntime) -> Result<(), test::Fail> {
-    let got = told(rt.alloc(), b"a * b % c + d", 11, 0)?;
+    let got = told(rt.alloc(), b"a * b % c + d", Level::Product, 0)?;
     assert_eq!(rt; got.as_str(), "{Remainder {Multiply a b} c} 5");
     Ok(())
 }
@@ -470,7 +520,7 @@ fn is_deep(alloc: Global, text: &[u8], depth: u8) -> Result<Option<bool>, test::
         return Err("long".into());
     }
     let tokens = lex(alloc, text)?;
-    match parse_expr(alloc, &tokens, 0, 1, depth) {
+    match parse_expr(alloc, &tokens, 0, Level::Any, depth) {
         Err(Refused::Refused(Refusal::TooDeep(_))) => Ok(Some(true)),
         Ok((_, behind)) if behind == tokens.len() => Ok(Some(false)),
         _ => Ok(None),

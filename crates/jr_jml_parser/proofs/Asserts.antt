@@ -1,5 +1,5 @@
--- `assert`, and which kind of clause stands at a place.
-use Rattle.std.proofs.Common.{◌≡◌, ℕ, ◌+◌, true, false, List, refl, sym, ap, ◌∙◌, subst, inl, inr, arith}
+-- `assert`, and which kind of clause stands at an index.
+use Rattle.std.proofs.Common.{◌≡◌, ℕ, ◌+◌, ◌<◌, true, false, List, length, refl, sym, ap, ◌∙◌, subst, inl, inr, arith}
 use Rattle.std.specs.Prelude.{◌≢◌, ◌⊎◌, Result, Ok, Err}
 use Rattle.jr_base.specs.declared.number.Span.{Span}
 use Rattle.jr_base.specs.declared.refusal.Refusal.TheVariants as refusal
@@ -13,14 +13,16 @@ use Rattle.jr_ast.specs.declared.expr.SpecExpr.{SpecExpr}
 use Rattle.jr_ast.specs.Expressions.{Expr, view_spec}
 use Rattle.jr_ast.specs.Clauses.{MethodClause, ClassClause, Clause}
 use Rattle.jr_ast.specs.Clauses as c
-use Rattle.jr_expr_parser.specs.Seen.{seen}
+use Rattle.jr_reading.specs.Seen.{seen}
+use Rattle.jr_reading.specs.Limits.{nesting_limit}
 use Rattle.jr_expr_parser.specs.Nesting.{nesting}
 use Rattle.jr_jml_parser.specs.Grammar.{Condition, SpellsMethod, SpellsClass, SpellsAssert, asserts, SpellsClause, of_method, of_class, assertion}
 use Rattle.jr_jml_parser.specs.Nesting.{method_nesting, class_nesting, assert_nesting, clause_nesting}
-use Rattle.jr_jml_parser.specs.Answers.{Refuses, Fails, Fits, AnswersAssert, NotNegated}
-use Rattle.jr_jml_parser.specs.Source.{refusal_at, Taken}
-use Rattle.jr_jml_parser.specs.Parts.{is_modifier, AnswersCondition}
-use Rattle.jr_jml_parser.proofs.Places.{behind_other}
+use Rattle.jr_jml_parser.specs.Answers.{Refuses, Fails, Fits, AnswersAssert}
+use Rattle.jr_reading.specs.Steps.{refusal_at}
+use Rattle.jr_jml_parser.specs.Takes.{Taken}
+use Rattle.jr_jml_parser.specs.Parts.{is_modifier, AnswersCondition, Starts}
+use Rattle.jr_jml_parser.proofs.Indexes.{behind_other, seen_inside}
 use Rattle.jr_jml_parser.proofs.Refusals.{of_part, refused}
 use Rattle.jr_jml_parser.proofs.Methods.{method_word, method_starts, no_method, no_method_word}
 use Rattle.jr_jml_parser.proofs.Classes.{class_word, class_starts}
@@ -34,20 +36,23 @@ assert_in (asserts h d) = d
 pub assert_open : (ts : List Token) (i depth : ℕ) (f : Fail) → seen true ts i ≢ k.Assert → f ≡ Refused (refusal_at ts i) → Fails (SpellsAssert ts i) assert_nesting ts i depth f
 assert_open ts i depth f other is = refused (SpellsAssert ts i) assert_nesting ts i i depth f (omega arith) (λ e j s. other (assert_starts s)) is
 
--- below the limit stands no statement that holds anything
-pub assert_deep : (ts : List Token) (i m depth : ℕ) (s : Span) → depth ≡ 128 → Taken k.Assert ts i m → Refuses (SpellsAssert ts i) assert_nesting ts i depth (refusal.TooDeep s)
-assert_deep ts i m depth s e t = ((λ a j w l. omega arith), omega (arith, t.within.below))
+inside : (ts : List Token) (i m : ℕ) → Taken k.Assert ts i m → i < length ts
+inside ts i m t = seen_inside ts i k.Assert t.is (λ e. cc)
 
-pub assert_start : (ts : List Token) (i m : ℕ) → Taken k.Assert ts i m → NotNegated ts m
-assert_start ts i m t = subst (NotNegated ts) (sym t.next) (behind_other ts i k.Assert t.is (λ x. cc))
+-- below the limit stands no statement that holds anything
+pub assert_deep : (ts : List Token) (i m depth : ℕ) (s : Span) → depth ≡ nesting_limit → Taken k.Assert ts i m → Refuses (SpellsAssert ts i) assert_nesting ts i depth (refusal.TooDeep s)
+assert_deep ts i m depth s e t = ((λ a j w l. omega arith), omega (arith, inside ts i m t))
+
+pub assert_start : (ts : List Token) (i m : ℕ) → Taken k.Assert ts i m → Starts ts m
+assert_start ts i m t = subst (Starts ts) (sym t.next) (behind_other ts i k.Assert t.is (λ x. cc) refl)
 
 pub assert_answers : (ts : List Token) (i m depth : ℕ) (result : Result (SpecExpr × ℕ) Fail) → Taken k.Assert ts i m → AnswersCondition ts m (depth + 1) result → AnswersAssert ts i depth result
 assert_answers ts i m depth (Ok r) t w = record { stands = asserts t.is (subst (λ (x : ℕ). Condition ts x (view_spec r.0) r.1) t.next w.stands); shallow = omega (arith, w.shallow) }
 assert_answers ts i m depth (Err f) t w =
-    of_part (Condition ts m) nesting (SpellsAssert ts i) assert_nesting ts i m (depth + 1) depth f (omega (arith, t.next)) (omega (arith, t.next, t.within.below))
+    of_part (Condition ts m) nesting (SpellsAssert ts i) assert_nesting ts i m (depth + 1) depth f (omega (arith, t.next)) (omega (arith, t.next, inside ts i m t))
     (λ e j s. (e, j, subst (λ (x : ℕ). Condition ts x e j) (sym t.next) (assert_in s), omega arith)) w
 
--- ---- which kind of clause stands at a place
+-- ---- which kind of clause stands at an index
 
 class_no_method : (x : Kind) → method_word x ≡ true → (is_modifier x ≡ true) ⊎ (class_word x ≡ true) → ⊥
 class_no_method k.Requires m (inl h) = cc

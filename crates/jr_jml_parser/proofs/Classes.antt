@@ -13,16 +13,17 @@ use Rattle.jr_ast.specs.declared.name.Name.{Name}
 use Rattle.jr_ast.specs.Expressions.{Expr}
 use Rattle.jr_ast.specs.Clauses.{ClassClause}
 use Rattle.jr_ast.specs.Clauses as c
-use Rattle.jr_expr_parser.specs.Seen.{seen, name_at}
+use Rattle.jr_reading.specs.Seen.{seen, name_at}
 use Rattle.jr_expr_parser.specs.Nesting.{nesting}
 use Rattle.jr_jml_parser.specs.Grammar.{Condition, Objects, plain, visible, static, is_visibility, Tie, Declares, invariant, constraint, monitors_for, SpellsClass, modified}
 use Rattle.jr_jml_parser.specs.Nesting.{deepest, class_nesting}
-use Rattle.jr_jml_parser.specs.Answers.{Refuses, Fails, Fits, NotNegated}
-use Rattle.jr_jml_parser.specs.Source.{refusal_at, Taken}
-use Rattle.jr_jml_parser.specs.Parts.{Reaches, flat, is_modifier, AllModified}
-use Rattle.jr_jml_parser.proofs.Places.{behind_other}
+use Rattle.jr_jml_parser.specs.Answers.{Refuses, Fails, Fits}
+use Rattle.jr_reading.specs.Steps.{refusal_at}
+use Rattle.jr_jml_parser.specs.Takes.{Taken}
+use Rattle.jr_jml_parser.specs.Parts.{Reaches, flat, is_modifier, AllModified, Starts}
+use Rattle.jr_jml_parser.proofs.Indexes.{behind_other}
 use Rattle.jr_jml_parser.proofs.Refusals.{of_part, refused, refused_at}
-use Rattle.jr_jml_parser.proofs.Ties.{one_tie, tie_advances}
+use Rattle.jr_jml_parser.proofs.Ties.{one_tie, tie_advances, tie_before}
 
 -- what stands behind a word, where it begins a clause of a class
 abbrev DeclaresBy : List Token → Bool → ℕ → Kind → ClassClause → ℕ → Type 0
@@ -72,8 +73,10 @@ pub tie_failed : (ts : List Token) (i m depth : ℕ) (f : Fail) → seen true ts
 tie_failed ts i m depth f h is = of_part (Reaches (Tie ts m)) flat (Declares ts false i) class_nesting ts i m 0 depth f (omega arith) (omega arith)
     (λ a j d. let q = by_word ts false i j a k.MonitorsFor (sym h) d in let same : i + 2 ≡ m = omega arith in (tt, q.1, subst (λ (x : ℕ). Tie ts x q.1) same q.5, omega arith))
 
-pub objects_start : (ts : List Token) (i m n : ℕ) → seen true ts i ≡ k.MonitorsFor → m ≡ i + 1 + 1 → Tie ts m n → NotNegated ts n
-objects_start ts i m n h is t = let same : m ≡ i + 2 = omega arith in inr (inr (i, h, subst (λ (x : ℕ). Tie ts x n) same t))
+pub objects_start : (ts : List Token) (i m n : ℕ) → seen true ts i ≡ k.MonitorsFor → m ≡ i + 1 + 1 → Tie ts m n → Starts ts n
+objects_start ts i m n h is t =
+    let same : m ≡ i + 2 = omega arith in
+    record { negated = inr (i, h, subst (λ (x : ℕ). Tie ts x n) same t); outside = tie_before t }
 
 pub objects_failed : (ts : List Token) (i m n depth : ℕ) (f : Fail) → seen true ts i ≡ k.MonitorsFor → m ≡ i + 1 + 1 → Tie ts m n → Fails (Objects ts n) deepest ts n depth f → Fails (Declares ts false i) class_nesting ts i depth f
 objects_failed ts i m n depth f h is t =

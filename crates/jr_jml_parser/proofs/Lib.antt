@@ -1,4 +1,4 @@
-pub mod Places
+pub mod Indexes
 pub mod Refusals
 pub mod Pieces
 pub mod Ties

@@ -10,14 +10,15 @@ use Rattle.jr_lexer.specs.Reading.{span_at}
 use Rattle.jr_ast.specs.Expressions.{Expr}
 use Rattle.jr_ast.specs.Clauses.{MethodClause}
 use Rattle.jr_ast.specs.Clauses as c
-use Rattle.jr_expr_parser.specs.Seen.{seen}
+use Rattle.jr_reading.specs.Seen.{seen}
+use Rattle.jr_reading.specs.Limits.{nesting_limit}
 use Rattle.jr_expr_parser.specs.Nesting.{nesting}
 use Rattle.jr_jml_parser.specs.Grammar.{Condition, Objects, Anything, SpellsMethod, requires, ensures, when, locks, assignable, modifies}
 use Rattle.jr_jml_parser.specs.Nesting.{deepest, method_nesting}
 use Rattle.jr_jml_parser.specs.Answers.{Refuses, Fails, Fits}
-use Rattle.jr_jml_parser.specs.Source.{refusal_at}
+use Rattle.jr_reading.specs.Steps.{refusal_at}
 use Rattle.jr_jml_parser.specs.Parts.{Reaches, flat}
-use Rattle.jr_jml_parser.proofs.Places.{behind_other}
+use Rattle.jr_jml_parser.proofs.Indexes.{behind_other}
 use Rattle.jr_jml_parser.proofs.Refusals.{of_part, refused_at}
 
 -- what stands behind a word, where it begins a clause of a method
@@ -79,10 +80,10 @@ when_fits ts i j depth e h w = record { stands = when (sym h) w.stands; shallow 
 pub locks_fits : (ts : List Token) (i j depth : ℕ) (es : List Expr) → k.Locks ≡ seen true ts i → Fits (Objects ts (i + 1)) deepest depth es j → Fits (SpellsMethod ts i) method_nesting depth (c.Locks (span_at ts i) es) j
 locks_fits ts i j depth es h w = record { stands = locks (sym h) w.stands; shallow = w.shallow }
 
-pub assignable_fits : (ts : List Token) (i j depth : ℕ) → depth ≤ 128 → k.Assignable ≡ seen true ts i → Anything ts (i + 1) j → Fits (SpellsMethod ts i) method_nesting depth (c.Assignable (span_at ts i)) j
+pub assignable_fits : (ts : List Token) (i j depth : ℕ) → depth ≤ nesting_limit → k.Assignable ≡ seen true ts i → Anything ts (i + 1) j → Fits (SpellsMethod ts i) method_nesting depth (c.Assignable (span_at ts i)) j
 assignable_fits ts i j depth d h w = record { stands = assignable (sym h) w; shallow = omega arith }
 
-pub modifies_fits : (ts : List Token) (i j depth : ℕ) → depth ≤ 128 → k.Modifies ≡ seen true ts i → Anything ts (i + 1) j → Fits (SpellsMethod ts i) method_nesting depth (c.Modifies (span_at ts i)) j
+pub modifies_fits : (ts : List Token) (i j depth : ℕ) → depth ≤ nesting_limit → k.Modifies ≡ seen true ts i → Anything ts (i + 1) j → Fits (SpellsMethod ts i) method_nesting depth (c.Modifies (span_at ts i)) j
 modifies_fits ts i j depth d h w = record { stands = modifies (sym h) w; shallow = omega arith }
 
 -- ---- no such word

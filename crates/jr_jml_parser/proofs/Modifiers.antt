@@ -1,14 +1,15 @@
 -- Modifiers before the keyword of a clause.
-use Rattle.std.proofs.Common.{◌≡◌, ℕ, ◌+◌, ◌≤◌, Bool, true, false, ◌||◌, List, refl, sym, ap, ◌∙◌, subst, inl, inr, arith}
+use Rattle.std.proofs.Common.{◌≡◌, ℕ, ◌+◌, ◌-◌, ◌<◌, ◌≤◌, Bool, true, false, ◌||◌, List, length, refl, sym, ap, ◌∙◌, subst, inl, inr, arith}
 use Rattle.std.specs.Prelude.{◌≢◌, ◌⊎◌}
 use Rattle.jr_lexer.specs.declared.kind.Kind.{Kind}
 use Rattle.jr_lexer.specs.declared.kind.Kind.TheVariants as k
 use Rattle.jr_lexer.specs.Token.{Token}
-use Rattle.jr_expr_parser.specs.Seen.{seen}
+use Rattle.jr_reading.specs.Seen.{seen}
 use Rattle.jr_jml_parser.specs.Grammar.{Modified, plain, visible, static, is_visibility}
 use Rattle.jr_jml_parser.specs.Parts.{AllModified, is_modifier}
+use Rattle.jr_jml_parser.proofs.Indexes.{seen_inside}
 
--- The modifiers from place i up to place n were read; is_static is true where one is `static`.
+-- The modifiers from index i up to index n were read; is_static is true where one is `static`.
 pub record Passed (ts : List Token) (i : ℕ) (is_static : Bool) (n : ℕ) : Type 0 where
   pub behind : i ≤ n
   pub whole : (s : Bool) (m : ℕ) → Modified ts n s m → Modified ts i (is_static || s) m
@@ -24,6 +25,12 @@ or_false false = refl
 
 pub none_passed : (ts : List Token) (i : ℕ) → Passed ts i false i
 none_passed ts i = record { behind = omega arith; whole = λ s m d. d; only = λ s m d h. (s, refl, d) }
+
+-- behind a modifier less is left
+pub nearer : (ts : List Token) (n : ℕ) (x : Kind) → x ≡ seen true ts n → is_modifier x ≡ true → length ts - (n + 1) < length ts - n
+nearer ts n x e h =
+    let inside : n < length ts = seen_inside ts n x (sym e) (λ (end : x ≡ k.End). let y : true ≡ false = sym h ∙ ap is_modifier end in absurd cc) in
+    omega arith
 
 visible_modifier : (x : Kind) → is_visibility x ≡ true → is_modifier x ≡ false → ⊥
 visible_modifier k.Static v h = absurd cc
@@ -78,6 +85,11 @@ no_modifier k.Private a b c d = absurd (b refl)
 no_modifier k.Protected a b c d = absurd (c refl)
 no_modifier k.Static a b c d = absurd (d refl)
 no_modifier _ a b c d = refl
+
+pub visibility_modifies : (x : Kind) → (x ≡ k.Public) ⊎ ((x ≡ k.Private) ⊎ (x ≡ k.Protected)) → is_modifier x ≡ true
+visibility_modifies x (inl e) = ap is_modifier e
+visibility_modifies x (inr (inl e)) = ap is_modifier e
+visibility_modifies x (inr (inr e)) = ap is_modifier e
 
 pub a_visibility : (x : Kind) → (x ≡ k.Public) ⊎ ((x ≡ k.Private) ⊎ (x ≡ k.Protected)) → is_visibility x ≡ true
 a_visibility x (inl e) = ap is_visibility e

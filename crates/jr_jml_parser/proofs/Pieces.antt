@@ -10,16 +10,21 @@ use Rattle.jr_lexer.specs.Reading.{jml_at}
 use Rattle.std.proofs.lemmas.List.{map-append}
 use Rattle.jr_ast.specs.declared.expr.SpecExpr.{SpecExpr}
 use Rattle.jr_ast.specs.Expressions.{Expr, view_spec}
-use Rattle.jr_expr_parser.specs.Seen.{seen}
+use Rattle.jr_reading.specs.Seen.{seen}
+use Rattle.jr_reading.specs.Listed.{last, more}
+use Rattle.jr_reading.specs.Limits.{nesting_limit}
 use Rattle.jr_expr_parser.specs.Nesting.{nesting}
 use Rattle.jr_expr_parser.specs.Grammar.{Stands}
 use Rattle.jr_expr_parser.specs.Answers as expr
-use Rattle.jr_jml_parser.specs.Grammar.{Expression, Condition, condition, Objects, last, more, Anything, end, skip}
+use Rattle.jr_jml_parser.specs.Grammar.{Expression, Condition, condition, Objects, objects, Anything, end, skip}
 use Rattle.jr_jml_parser.specs.Nesting.{deepest}
-use Rattle.jr_jml_parser.specs.Answers.{Nothing, Refuses, Fails, Fits, NotNegated}
-use Rattle.jr_jml_parser.specs.Source.{refusal_at, Taken}
-use Rattle.jr_jml_parser.specs.Parts.{Reaches, flat}
-use Rattle.jr_jml_parser.proofs.Places.{semicolon_ends, comma_ends, behind_other, seen_past, seen_jml, jml_inside, seen_inside, advances}
+use Rattle.jr_reading.specs.Answers.{Nothing}
+use Rattle.jr_jml_parser.specs.Answers.{Refuses, Fails, Fits}
+use Rattle.jr_reading.specs.Steps.{refusal_at}
+use Rattle.jr_jml_parser.specs.Takes.{Taken}
+use Rattle.jr_jml_parser.specs.Parts.{Reaches, flat, Starts}
+use Rattle.jr_reading.proofs.Tokens.{unseen}
+use Rattle.jr_jml_parser.proofs.Indexes.{semicolon_ends, comma_ends, behind_other, seen_jml, jml_inside, seen_inside, advances}
 use Rattle.jr_expr_parser.proofs.Whole.{one_tree}
 use Rattle.jr_jml_parser.proofs.Refusals.{of_expression, refused, refused_at}
 
@@ -37,7 +42,7 @@ before_comma {ts = ts} {j = j} s h = record { spelled = s; ends = comma_ends ts 
 pub condition_in : {ts : List Token} {i j : ℕ} {e : Expr} → Condition ts i e j → (m : ℕ) × Stands true ts 2 i e m × (seen true ts m ≡ k.Semicolon) × (j ≡ m + 1)
 condition_in (condition {j = j} s h) = (j, before_semicolon s h, h, refl)
 
-pub condition_failed : (ts : List Token) (i depth : ℕ) (f : Fail) → NotNegated ts i → expr.Fails true ts 2 i depth f → Fails (Condition ts i) nesting ts i depth f
+pub condition_failed : (ts : List Token) (i depth : ℕ) (f : Fail) → Starts ts i → expr.Fails true ts 2 i depth f → Fails (Condition ts i) nesting ts i depth f
 condition_failed ts i depth f n h = of_expression (Condition ts i) nesting ts i i depth depth f (omega arith) (omega arith) n (λ e j c. let q = condition_in c in (e, q.0, q.1, omega arith)) h
 
 pub condition_open : (ts : List Token) (i j depth : ℕ) (e : Expr) (f : Fail) → Stands true ts 2 i e j → seen true ts j ≢ k.Semicolon → f ≡ Refused (refusal_at ts j) → Fails (Condition ts i) nesting ts i depth f
@@ -51,12 +56,12 @@ one_condition c d = let p = condition_in c in let q = condition_in d in let same
 
 -- ---- expressions with commas between, and the `;` behind them
 
--- The list that began at place i has come to place n, with the members fs: what stands from there on is the
+-- The list that began at index i has come to index n, with the members fs: what stands from there on is the
 -- rest of it.
 pub record SoFar (ts : List Token) (i depth : ℕ) (fs : List Expr) (n : ℕ) : Type 0 where
   pub behind : i ≤ n
-  pub shallow : depth + deepest fs ≤ 128
-  pub start : NotNegated ts n
+  pub shallow : depth + deepest fs ≤ nesting_limit
+  pub start : Starts ts n
   pub whole : (es : List Expr) (m : ℕ) → Objects ts n es m → Objects ts i (fs ++ es) m
   pub only : (es : List Expr) (m : ℕ) → Objects ts i es m → (rest : List Expr) × (es ≡ fs ++ rest) × Objects ts n rest m
 
@@ -73,19 +78,22 @@ pub record Headed (ts : List Token) (i : ℕ) (es : List Expr) (j : ℕ) : Type 
   pub stands : Stands true ts 2 i first end_of
   pub goes : Goes ts end_of rest j
 
-pub objects_in : {ts : List Token} {i j : ℕ} {es : List Expr} → Objects ts i es j → Headed ts i es j
-objects_in (last {j = j} {e = e} s h) = record { first = e; rest = []; end_of = j; whole = refl; stands = before_semicolon s h; goes = no_more h }
-objects_in (more {j = j} {e = e} {es = es} s h o) = record { first = e; rest = es; end_of = j; whole = refl; stands = before_comma s h; goes = goes_on h o }
+and_more : {ts : List Token} {i j m : ℕ} {e : Expr} {es : List Expr} → Expression ts i e j → seen true ts j ≡ k.Comma → Objects ts (j + 1) es m → Objects ts i (e ∷ es) m
+and_more s h (objects l g) = objects (more s h l) g
 
-deepest-append : (xs : List Expr) (e : Expr) (d : ℕ) → d + deepest xs ≤ 128 → d + nesting e ≤ 128 → d + deepest (xs ++ e ∷ []) ≤ 128
+pub objects_in : {ts : List Token} {i j : ℕ} {es : List Expr} → Objects ts i es j → Headed ts i es j
+objects_in (objects (last {j = j} {x = e} s) h) = record { first = e; rest = []; end_of = j; whole = refl; stands = before_semicolon s h; goes = no_more h }
+objects_in (objects (more {j = j} {x = e} {xs = es} s h l) g) = record { first = e; rest = es; end_of = j; whole = refl; stands = before_comma s h; goes = goes_on h (objects l g) }
+
+deepest-append : (xs : List Expr) (e : Expr) (d : ℕ) → d + deepest xs ≤ nesting_limit → d + nesting e ≤ nesting_limit → d + deepest (xs ++ e ∷ []) ≤ nesting_limit
 deepest-append [] e d h g = omega arith
-deepest-append (x ∷ xs) e d h g = let rest : d + deepest (xs ++ e ∷ []) ≤ 128 = deepest-append xs e d (omega arith) g in omega arith
+deepest-append (x ∷ xs) e d h g = let rest : d + deepest (xs ++ e ∷ []) ≤ nesting_limit = deepest-append xs e d (omega arith) g in omega arith
 
 deepest_last : (xs ys : List Expr) → deepest ys ≤ deepest (xs ++ ys)
 deepest_last [] ys = omega arith
 deepest_last (x ∷ xs) ys = let rest : deepest ys ≤ deepest (xs ++ ys) = deepest_last xs ys in omega arith
 
-pub nothing_so_far : (ts : List Token) (i depth : ℕ) → depth ≤ 128 → NotNegated ts i → SoFar ts i depth [] i
+pub nothing_so_far : (ts : List Token) (i depth : ℕ) → depth ≤ nesting_limit → Starts ts i → SoFar ts i depth [] i
 nothing_so_far ts i depth h n = record { behind = omega arith; shallow = omega arith; start = n; whole = λ es m o. o; only = λ es m o. (es, refl, o) }
 
 head_fits : (fs es rest : List Expr) (x : Expr) (all : List Expr) → all ≡ fs ++ es → es ≡ x ∷ rest → nesting x ≤ deepest all
@@ -108,7 +116,7 @@ objects_open ts i n m depth fs e r s w a b is =
 
 pub objects_fits : (ts : List Token) (i n m depth : ℕ) (fs : List Expr) (e : Expr) → SoFar ts i depth fs n → expr.Fits true ts 2 n depth e m
     → seen true ts m ≡ k.Semicolon → Fits (Objects ts i) deepest depth (fs ++ e ∷ []) (m + 1)
-objects_fits ts i n m depth fs e s w h = record { stands = s.whole (e ∷ []) (m + 1) (last w.stands.spelled h); shallow = deepest-append fs e depth s.shallow w.shallow }
+objects_fits ts i n m depth fs e s w h = record { stands = s.whole (e ∷ []) (m + 1) (objects (last w.stands.spelled) h); shallow = deepest-append fs e depth s.shallow w.shallow }
 
 pub goes_only : {ts : List Token} {m j : ℕ} {es : List Expr} → Goes ts m es j → seen true ts m ≡ k.Comma → Objects ts (m + 1) es j
 goes_only (no_more h) a = absurd (let x : k.Semicolon ≡ k.Comma = sym h ∙ a in cc)
@@ -119,8 +127,8 @@ pub one_more : (ts : List Token) (i n m depth : ℕ) (fs : List Expr) (e : Expr)
 one_more ts i n m depth fs e s w h = record {
   behind = omega (arith, s.behind, (advances w.stands.spelled).0);
   shallow = deepest-append fs e depth s.shallow w.shallow;
-  start = behind_other ts m k.Comma h (λ x. cc);
-  whole = λ es j o. subst (λ (all : List Expr). Objects ts i all j) (sym (append_assoc fs (e ∷ []) es)) (s.whole (e ∷ es) j (more w.stands.spelled h o));
+  start = behind_other ts m k.Comma h (λ x. cc) refl;
+  whole = λ es j o. subst (λ (all : List Expr). Objects ts i all j) (sym (append_assoc fs (e ∷ []) es)) (s.whole (e ∷ es) j (and_more w.stands.spelled h o));
   only = λ es j o.
       let q = s.only es j o in
       let p = objects_in q.2 in
@@ -147,7 +155,7 @@ nearer ts n m depth e w h = omega (arith, (advances w.stands.spelled).0, seen_in
 
 -- ---- any tokens but `;`, and the `;` behind them
 
--- The tokens from place i up to place n were skipped.
+-- The tokens from index i up to index n were skipped.
 pub record Skipped (ts : List Token) (i n : ℕ) : Type 0 where
   pub behind : i ≤ n
   pub whole : (m : ℕ) → Anything ts n m → Anything ts i m
@@ -162,7 +170,7 @@ pub anything_open : (ts : List Token) (i n : ℕ) (r : Refusal) → Skipped ts i
 anything_open ts i n r s a b is = refused_at (Reaches (Anything ts i)) flat ts i n 0 r s.behind (λ u j o. anything_none a b (s.only j o)) is
 
 anything_past : {ts : List Token} {n m : ℕ} → length ts ≤ n → Anything ts n m → ⊥
-anything_past {ts = ts} past (end {i = n} h) = let e : k.End ≡ k.Semicolon = seen_past ts n past ∙ h in cc
+anything_past {ts = ts} past (end {i = n} h) = let e : k.End ≡ k.Semicolon = sym (unseen true ts n past) ∙ h in cc
 anything_past {ts = ts} past (skip {i = n} h g o) = let inside : n < length ts = jml_inside ts n h in omega arith
 
 -- behind the last token there is no `;`

@@ -1,14 +1,16 @@
 -- What stands between the field of `monitors_for` and its objects.
-use Rattle.std.proofs.Common.{◌≡◌, ℕ, ◌+◌, ◌≤◌, true, List, refl, sym, ◌∙◌, subst, arith}
+use Rattle.std.proofs.Common.{◌≡◌, ℕ, ◌+◌, ◌-◌, ◌≤◌, true, false, List, refl, sym, ap, ◌∙◌, subst, arith}
 use Rattle.std.specs.Prelude.{◌≢◌, Result, Ok, Err}
 use Rattle.jr_base.specs.declared.refusal.Refusal.{Refusal}
 use Rattle.jr_base.specs.declared.refusal.Fail.{Fail}
 use Rattle.jr_lexer.specs.declared.kind.Kind.TheVariants as k
 use Rattle.jr_lexer.specs.Token.{Token}
-use Rattle.jr_expr_parser.specs.Seen.{seen}
+use Rattle.jr_reading.specs.Seen.{seen}
+use Rattle.jr_expr_parser.specs.BigLiteral.{is_head}
 use Rattle.jr_jml_parser.specs.Grammar.{Tie, equal, arrow}
 use Rattle.jr_jml_parser.specs.Answers.{Refuses}
-use Rattle.jr_jml_parser.specs.Source.{refusal_at, Takes}
+use Rattle.jr_reading.specs.Steps.{refusal_at}
+use Rattle.jr_jml_parser.specs.Takes.{Takes}
 use Rattle.jr_jml_parser.specs.Parts.{Reaches, flat, AnswersPlace}
 use Rattle.jr_jml_parser.proofs.Refusals.{refused, refused_at}
 
@@ -31,6 +33,11 @@ tie_arrow ts i (Err f) e t = refused (Reaches (Tie ts i)) flat ts i (i + 1) 0 f 
 pub tie_advances : {ts : List Token} {i m : ℕ} → Tie ts i m → i + 1 ≤ m
 tie_advances (equal h) = omega arith
 tie_advances (arrow h g) = omega arith
+
+-- neither `=` nor `-` is the head of an `if` or a `while`
+pub tie_before : {ts : List Token} {i m : ℕ} → Tie ts i m → is_head (seen true ts (m - 1)) ≡ false
+tie_before {ts = ts} (equal {i = i} h) = let same : i + 1 - 1 ≡ i = omega arith in ap is_head (ap (seen true ts) same ∙ h)
+tie_before {ts = ts} (arrow {i = i} h g) = let same : i + 2 - 1 ≡ i + 1 = omega arith in ap is_head (ap (seen true ts) same ∙ g)
 
 -- the end of what is read, by its first token
 tie_from_equal : {ts : List Token} {i m : ℕ} → seen true ts i ≡ k.Equal → Tie ts i m → m ≡ i + 1

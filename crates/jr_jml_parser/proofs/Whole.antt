@@ -1,4 +1,4 @@
--- At most one clause stands at a place, and it takes more tokens than it nests.
+-- At most one clause stands at an index, and it takes more tokens than it nests.
 use Rattle.std.proofs.Common.{◌≡◌, ℕ, suc, ◌+◌, ◌<◌, ◌≤◌, Bool, true, false, List, [], ◌∷◌, length, refl, sym, ap, ◌∙◌, subst, arith}
 use Rattle.std.specs.Prelude.{◌≢◌}
 use Rattle.jr_lexer.specs.declared.kind.Kind.TheVariants as k
@@ -7,13 +7,14 @@ use Rattle.jr_lexer.specs.Reading.{jml_at, kind_at, span_at}
 use Rattle.jr_ast.specs.Expressions.{Expr}
 use Rattle.jr_ast.specs.Clauses.{MethodClause, ClassClause, Clause}
 use Rattle.jr_ast.specs.Clauses as c
-use Rattle.jr_expr_parser.specs.Seen.{seen, name_at}
+use Rattle.jr_reading.specs.Seen.{seen, name_at}
+use Rattle.jr_reading.specs.Listed.{last, more}
 use Rattle.jr_expr_parser.specs.Nesting.{nesting}
-use Rattle.jr_jml_parser.specs.Grammar.{Condition, condition, Objects, last, more, Anything, end, skip, SpellsMethod, requires, ensures, when, locks, assignable, modifies, Modified, plain, visible, static, Declares, invariant, constraint, monitors_for, SpellsClass, modified, SpellsAssert, asserts, SpellsClause, of_method, of_class, assertion}
+use Rattle.jr_jml_parser.specs.Grammar.{Condition, condition, Objects, objects, Anything, end, skip, SpellsMethod, requires, ensures, when, locks, assignable, modifies, Modified, plain, visible, static, Declares, invariant, constraint, monitors_for, SpellsClass, modified, SpellsAssert, asserts, SpellsClause, of_method, of_class, assertion}
 use Rattle.jr_jml_parser.specs.Nesting.{deepest, method_nesting, class_nesting, assert_nesting, clause_nesting}
 use Rattle.jr_jml_parser.specs.Answers.{OneClause}
 use Rattle.jr_jml_parser.specs.Parts.{is_modifier}
-use Rattle.jr_jml_parser.proofs.Places.{seen_jml, seen_inside, advances}
+use Rattle.jr_jml_parser.proofs.Indexes.{seen_jml, seen_inside, advances}
 use Rattle.jr_jml_parser.proofs.Pieces.{standing, before_semicolon, before_comma, Goes, no_more, goes_on, goes_only, objects_in, one_condition}
 use Rattle.jr_jml_parser.proofs.Ties.{one_tie, tie_advances}
 use Rattle.jr_jml_parser.proofs.Modifiers.{behind_visible, behind_static, at_last}
@@ -29,15 +30,15 @@ goes_end h (no_more g) = (refl, refl)
 goes_end h (goes_on g o) = absurd (let x : k.Semicolon ≡ k.Comma = sym h ∙ g in cc)
 
 one_list : {ts : List Token} {i j m : ℕ} {es fs : List Expr} → Objects ts i es j → Objects ts i fs m → (es ≡ fs) × (j ≡ m)
-one_list {ts = ts} {m = m} (last {j = j} {e = e} s h) o =
+one_list {ts = ts} {m = m} (objects (last {j = j} {x = e} s) h) o =
     let p = objects_in o in
     let same = standing (before_semicolon s h) p.stands in
     let g = goes_end h (subst (λ (x : ℕ). Goes ts x p.rest m) (sym same.1) p.goes) in
     (sym (p.whole ∙ (ap (λ (x : Expr). x ∷ p.rest) (sym same.0) ∙ ap (λ (x : List Expr). e ∷ x) g.0)), sym g.1)
-one_list {ts = ts} {m = m} (more {j = j} {e = e} s h d) o =
+one_list {ts = ts} {m = m} (objects (more {j = j} {x = e} s h l) stop) o =
     let p = objects_in o in
     let same = standing (before_comma s h) p.stands in
-    let g = one_list d (goes_only (subst (λ (x : ℕ). Goes ts x p.rest m) (sym same.1) p.goes) h) in
+    let g = one_list (objects l stop) (goes_only (subst (λ (x : ℕ). Goes ts x p.rest m) (sym same.1) p.goes) h) in
     (ap (λ (x : List Expr). e ∷ x) g.0 ∙ (ap (λ (x : Expr). x ∷ p.rest) same.0 ∙ sym p.whole), g.1)
 
 anything_at : {ts : List Token} {i m : ℕ} → seen true ts i ≡ k.Semicolon → Anything ts i m → m ≡ i + 1
@@ -97,8 +98,8 @@ condition_advances : {ts : List Token} {i j : ℕ} {e : Expr} → Condition ts i
 condition_advances {ts = ts} (condition {j = j} s h) = let p = advances s in let inside : j < length ts = seen_inside ts j k.Semicolon h (λ x. cc) in (omega (arith, p.0), omega arith)
 
 objects_advance : {ts : List Token} {i j : ℕ} {es : List Expr} → Objects ts i es j → (i + suc (deepest es) ≤ j) × (j ≤ length ts)
-objects_advance {ts = ts} (last {j = j} s h) = let p = advances s in let inside : j < length ts = seen_inside ts j k.Semicolon h (λ x. cc) in (omega (arith, p.0), omega arith)
-objects_advance (more s h o) = let p = advances s in let q = objects_advance o in (omega (arith, p.0, q.0), q.1)
+objects_advance {ts = ts} (objects (last {j = j} s) h) = let p = advances s in let inside : j < length ts = seen_inside ts j k.Semicolon h (λ x. cc) in (omega (arith, p.0), omega arith)
+objects_advance (objects (more s h l) stop) = let p = advances s in let q = objects_advance (objects l stop) in (omega (arith, p.0, q.0), q.1)
 
 anything_advances : {ts : List Token} {i j : ℕ} → Anything ts i j → (i + 1 ≤ j) × (j ≤ length ts)
 anything_advances {ts = ts} (end {i = i} h) = let inside : i < length ts = seen_inside ts i k.Semicolon h (λ x. cc) in (omega arith, omega arith)

@@ -1,8 +1,8 @@
 -- What a clause is: one case a production. Every token of a clause stands in an annotation, and the place of
--- a clause is that of its keyword. (JML Reference Manual, "Method Specification Clauses", "Type
+-- a clause is that of its keyword; i and j are the indexes of tokens. (JML Reference Manual, "Method Specification Clauses", "Type
 -- Specifications" and "Assert Statements"; `locks` after Rodríguez, Dwyer, Flanagan, Hatcliff, Leavens and
 -- Robby 2005.)
-use Rattle.std.specs.Prelude.{◌≡◌, ◌≢◌, ℕ, ◌+◌, Bool, true, false, List, [], ◌∷◌}
+use Rattle.std.specs.Prelude.{◌≡◌, ◌≢◌, ℕ, ◌+◌, Bool, true, false, List}
 use Rattle.jr_lexer.specs.declared.kind.Kind.{Kind}
 use Rattle.jr_lexer.specs.declared.kind.Kind.TheVariants as k
 use Rattle.jr_lexer.specs.Token.{Token}
@@ -10,7 +10,8 @@ use Rattle.jr_lexer.specs.Reading.{jml_at, kind_at, span_at}
 use Rattle.jr_ast.specs.Expressions.{Expr}
 use Rattle.jr_ast.specs.Clauses.{MethodClause, ClassClause, Clause}
 use Rattle.jr_ast.specs.Clauses as c
-use Rattle.jr_expr_parser.specs.Seen.{seen, name_at}
+use Rattle.jr_reading.specs.Seen.{seen, name_at}
+use Rattle.jr_reading.specs.Listed.{Listed}
 use Rattle.jr_expr_parser.specs.Grammar.{Spells}
 
 -- the expression of a clause: of level 2, with quantifiers nested at most two deep
@@ -23,8 +24,7 @@ pub data Condition (ts : List Token) : ℕ → Expr → ℕ → Type 0 where
 
 -- one or more expressions with commas between, and the `;` behind them
 pub data Objects (ts : List Token) : ℕ → List Expr → ℕ → Type 0 where
-  last : {i j : ℕ} {e : Expr} → Expression ts i e j → seen true ts j ≡ k.Semicolon → Objects ts i (e ∷ []) (j + 1)
-  more : {i j m : ℕ} {e : Expr} {es : List Expr} → Expression ts i e j → seen true ts j ≡ k.Comma → Objects ts (j + 1) es m → Objects ts i (e ∷ es) m
+  objects : {i j : ℕ} {es : List Expr} → Listed true ts (Expression ts) i es j → seen true ts j ≡ k.Semicolon → Objects ts i es (j + 1)
 
 -- any tokens but `;`, and the `;` behind them
 pub data Anything (ts : List Token) : ℕ → ℕ → Type 0 where
@@ -73,7 +73,7 @@ pub data SpellsClass (ts : List Token) : ℕ → ClassClause → ℕ → Type 0 
 pub data SpellsAssert (ts : List Token) : ℕ → Expr → ℕ → Type 0 where
   asserts : {i j : ℕ} {e : Expr} → seen true ts i ≡ k.Assert → Condition ts (i + 1) e j → SpellsAssert ts i e j
 
--- SpellsClause ts i a j: the tokens from place i up to place j spell the clause a. As a clause ends in its
+-- SpellsClause ts i a j: the tokens from index i up to index j spell the clause a. As a clause ends in its
 -- `;`, it stands where tokens spell one.
 pub data SpellsClause (ts : List Token) : ℕ → Clause → ℕ → Type 0 where
   of_method : {i j : ℕ} {a : MethodClause} → SpellsMethod ts i a j → SpellsClause ts i (c.OfMethod a) j

@@ -1,5 +1,5 @@
 pub mod Grammar
 pub mod Nesting
 pub mod Answers
-pub mod Source
+pub mod Takes
 pub mod Parts

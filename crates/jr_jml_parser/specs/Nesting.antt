@@ -1,4 +1,5 @@
--- How deep a clause nests, counted from its own place.
+-- How deep a clause nests, counted from where it stands. Of a quantifier's range the bounds and the further
+-- conjuncts count as what stands in the quantifier; its signs and `&&` count nothing.
 use Rattle.std.specs.Prelude.{ℕ, suc, max, List, [], ◌∷◌}
 use Rattle.jr_ast.specs.Expressions.{Expr}
 use Rattle.jr_ast.specs.Clauses.{MethodClause, ClassClause, Clause, Requires, Ensures, When, Locks, Assignable, Modifies, Invariant, Constraint, MonitorsFor, OfMethod, OfClass, Assert}

@@ -1,7 +1,8 @@
 //! Clauses where they stand.
 
-ghost use Rattle.std.specs.Prelude.{◌≡◌, ◌≤◌, false, true};
-ghost use Rattle.jr_expr_parser.specs.Seen as spec;
+ghost use Rattle.std.specs.Prelude.{◌≡◌, ◌<◌, ◌≤◌, false, true};
+ghost use Rattle.jr_reading.specs.Limits.{nesting_limit};
+ghost use Rattle.jr_reading.specs.Seen as spec;
 ghost use Rattle.jr_jml_parser.specs.Answers.{
   AnswersAssert,
   AnswersClass,
@@ -10,16 +11,16 @@ ghost use Rattle.jr_jml_parser.specs.Answers.{
   OneClause,
 };
 ghost use Rattle.jr_jml_parser.specs.Parts.{AnswersClassForm, AnswersMethodForm};
-ghost use Rattle.jr_jml_parser.specs.Source.{Inside};
 
+use crate::annotations::{refusal, seen, take};
 use crate::parts::{anything, condition, modifiers, objects, tie};
-use crate::source::{refusal, seen, take};
 use jr_ast::{ClassClause, ClassForm, Clause, MethodClause, MethodForm, Name, SpecExpr};
 use jr_base::{Fail, Refusal};
 use jr_lexer::{Kind, Tokens};
+use jr_reading::NESTING_LIMIT;
 use std::alloc::Global;
 
-/// The clause that stands at a place, and the place behind it. The depth is the nesting of the place.
+/// The clause that stands at an index, and the index behind it. The depth is the nesting of what stands there.
 #[tactic(auto, using(crate::proofs::Asserts::clause_steps))]
 pub fn parse_clause(
     alloc: Global,
@@ -27,7 +28,7 @@ pub fn parse_clause(
     at: u32,
     depth: u8,
 ) -> Result<(Clause, u32), Fail>
-    requires { depth ≤ 128 }
+    requires { depth ≤ nesting_limit }
     ensures { AnswersClause tokens.now at depth result }
 {
     match seen(tokens, at) {
@@ -51,21 +52,21 @@ pub fn parse_clause(
     }
 }
 
-/// At most one clause stands at a place.
+/// At most one clause stands at an index.
 #[tactic(auto, using(crate::proofs::Whole::one_clause))]
 pub fn one_clause()
     ensures { OneClause }
 {}
 
-/// The clause of a method or constructor that stands at a place, and the place behind it (JML Reference
-/// Manual, "Method Specification Clauses"). The depth is the nesting of the place.
+/// The clause of a method or constructor that stands at an index, and the index behind it (JML Reference
+/// Manual, "Method Specification Clauses"). The depth is the nesting of what stands there.
 pub fn parse_method_clause(
     alloc: Global,
     tokens: &Tokens,
     at: u32,
     depth: u8,
 ) -> Result<(MethodClause, u32), Fail>
-    requires { depth ≤ 128 }
+    requires { depth ≤ nesting_limit }
     ensures { AnswersMethod tokens.now at depth result }
 {
     let (form, behind) = method_form(alloc, tokens, at, depth)?;
@@ -73,8 +74,8 @@ pub fn parse_method_clause(
     Ok((MethodClause { place, form }, behind))
 }
 
-/// The clause of a class that stands at a place, and the place behind it (JML Reference Manual, "Type
-/// Specifications"). The depth is the nesting of the place.
+/// The clause of a class that stands at an index, and the index behind it (JML Reference Manual, "Type
+/// Specifications"). The depth is the nesting of what stands there.
 #[tactic(auto, using(crate::proofs::Classes::class_failed))]
 pub fn parse_class_clause(
     alloc: Global,
@@ -82,7 +83,7 @@ pub fn parse_class_clause(
     at: u32,
     depth: u8,
 ) -> Result<(ClassClause, u32), Fail>
-    requires { depth ≤ 128 }
+    requires { depth ≤ nesting_limit }
     ensures { AnswersClass tokens.now at depth result }
 {
     let (is_static, keyword) = modifiers(tokens, at);
@@ -91,7 +92,7 @@ pub fn parse_class_clause(
     Ok((ClassClause { place, form }, behind))
 }
 
-/// What an `assert` that stands at a place says holds there, and the place behind its `;` (JML Reference
+/// What an `assert` that stands at an index says holds there, and the index behind its `;` (JML Reference
 /// Manual, "Assert Statements"). The depth is the nesting of the statement, which counts one above what
 /// it holds.
 #[tactic(auto, using(crate::proofs::Asserts::assert_steps))]
@@ -101,17 +102,17 @@ pub fn parse_assert(
     at: u32,
     depth: u8,
 ) -> Result<(SpecExpr, u32), Fail>
-    requires { depth ≤ 128 }
+    requires { depth ≤ nesting_limit }
     ensures { AnswersAssert tokens.now at depth result }
 {
     let start = take(tokens, at, Kind::Assert)?;
-    if depth == 128 {
+    if depth == NESTING_LIMIT {
         return Err(Fail::Refused(Refusal::TooDeep(tokens.span(start))));
     }
     condition(alloc, tokens, start, depth + 1)
 }
 
-/// What a clause of a method asks, whose keyword stands at a place.
+/// What a clause of a method asks, whose keyword stands at an index.
 #[tactic(auto, using(crate::proofs::Methods::method_steps))]
 fn method_form(
     alloc: Global,
@@ -119,7 +120,7 @@ fn method_form(
     at: u32,
     depth: u8,
 ) -> Result<(MethodForm, u32), Fail>
-    requires { depth ≤ 128 }
+    requires { depth ≤ nesting_limit }
     ensures { AnswersMethodForm tokens.now at depth result }
 {
     match seen(tokens, at) {
@@ -151,7 +152,7 @@ fn method_form(
     }
 }
 
-/// What a clause of a class asks, whose keyword stands at a place.
+/// What a clause of a class asks, whose keyword stands at an index.
 #[tactic(auto, using(crate::proofs::Classes::class_steps))]
 fn class_form(
     alloc: Global,
@@ -160,7 +161,7 @@ fn class_form(
     is_static: bool,
     depth: u8,
 ) -> Result<(ClassForm, u32), Fail>
-    requires { depth ≤ 128 }
+    requires { depth ≤ nesting_limit }
     ensures { AnswersClassForm tokens.now is_static at depth result }
 {
     match seen(tokens, at) {
@@ -194,7 +195,7 @@ fn class_form(
     }
 }
 
-/// A `monitors_for`, whose keyword stands at a place.
+/// A `monitors_for`, whose keyword stands at an index.
 #[tactic(auto, using(crate::proofs::Classes::monitors_steps))]
 fn monitors_for(
     alloc: Global,
@@ -202,9 +203,9 @@ fn monitors_for(
     at: u32,
     depth: u8,
 ) -> Result<(ClassForm, u32), Fail>
-    requires depth { depth ≤ 128 }
+    requires depth { depth ≤ nesting_limit }
     requires keyword { spec.seen true tokens.now at ≡ Kind.MonitorsFor }
-    requires inside { Inside tokens.now at }
+    requires inside { at < 1048576 }
     ensures { AnswersClassForm tokens.now false at depth result }
 {
     let sign = take(tokens, at + 1, Kind::Name)?;

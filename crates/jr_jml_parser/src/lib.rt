@@ -1,11 +1,11 @@
-//! The reader of JML clauses. The one promise: it gives the clause that stands at a place, and the place
-//! behind it, exactly where one stands there that nests within the limit. What a clause is stands in
+//! The reader of JML clauses. The one promise: it gives the clause that stands at an index, and the
+//! index behind it, exactly where one stands there that nests within the limit. What a clause is stands in
 //! `specs/Grammar.antt`, its nesting in `specs/Nesting.antt`, and the answers in `specs/Answers.antt`.
 #![tactic(auto)]
 
+mod annotations;
 pub mod clause;
 mod parts;
-mod source;
 #[cfg(test)]
 mod tests;
 

@@ -1,16 +1,17 @@
 //! What clauses are made of.
 
 ghost use Rattle.std.specs.Prelude.{◌≡◌, ◌≤◌};
+ghost use Rattle.jr_reading.specs.Limits.{nesting_limit};
 ghost use Rattle.jr_jml_parser.specs.Grammar.{Anything, Tie};
-ghost use Rattle.jr_jml_parser.specs.Answers.{NotNegated};
 ghost use Rattle.jr_jml_parser.specs.Parts.{
   AllModified,
   AnswersCondition,
   AnswersObjects,
   AnswersPlace,
+  Starts,
 };
 
-use crate::source::{refusal, seen, take};
+use crate::annotations::{refusal, seen, take};
 use jr_ast::SpecExpr;
 use jr_base::{Fail, Refusal};
 use jr_expr_parser::parse_spec_expr;
@@ -26,8 +27,8 @@ pub fn condition(
     at: u32,
     depth: u8,
 ) -> Result<(SpecExpr, u32), Fail>
-    requires depth { depth ≤ 128 }
-    requires start { NotNegated tokens.now at }
+    requires depth { depth ≤ nesting_limit }
+    requires start { Starts tokens.now at }
     ensures { AnswersCondition tokens.now at depth result }
 {
     let (condition, end) = parse_spec_expr(alloc, tokens, at, depth)?;
@@ -43,8 +44,8 @@ pub fn objects(
     at: u32,
     depth: u8,
 ) -> Result<(Items<SpecExpr>, u32), Fail>
-    requires depth { depth ≤ 128 }
-    requires start { NotNegated tokens.now at }
+    requires depth { depth ≤ nesting_limit }
+    requires start { Starts tokens.now at }
     ensures { AnswersObjects tokens.now at depth result }
 {
     let mut found = Items::new(alloc);
@@ -60,7 +61,7 @@ pub fn objects(
     }
 }
 
-/// The place behind the next `;`, where all tokens up to it are of annotations.
+/// The index behind the next `;`, where all tokens up to it are of annotations.
 #[tactic(auto, using(crate::proofs::Pieces::anything_steps))]
 pub fn anything(tokens: &Tokens, at: u32) -> Result<u32, Fail>
     ensures { AnswersPlace (Anything tokens.now at) tokens.now at result }
@@ -77,7 +78,7 @@ pub fn anything(tokens: &Tokens, at: u32) -> Result<u32, Fail>
     Err(Fail::Refused(Refusal::Syntax(tokens.span(end))))
 }
 
-/// Whether one of the modifiers at a place is `static`, and the place behind them all.
+/// Whether one of the modifiers at an index is `static`, and the index behind them all.
 #[tactic(auto, using(crate::proofs::Modifiers::none_passed))]
 pub fn modifiers(tokens: &Tokens, at: u32) -> (bool, u32)
     ensures { AllModified tokens.now at result.0 result.1 }
@@ -96,7 +97,7 @@ pub fn modifiers(tokens: &Tokens, at: u32) -> (bool, u32)
     }
 }
 
-/// The place behind the `=` or `<-` of `monitors_for`.
+/// The index behind the `=` or `<-` of `monitors_for`.
 pub fn tie(tokens: &Tokens, at: u32) -> Result<u32, Fail>
     ensures { AnswersPlace (Tie tokens.now at) tokens.now at result }
 {

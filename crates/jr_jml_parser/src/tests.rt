@@ -140,7 +140,7 @@ fn tell_refused(out: &mut String, refused: Refused) -> Result<(), test::Fail> {
     Ok(())
 }
 
-/// The clause that stands first in a text, and the place behind it, or the refusal and the byte at which it
+/// The clause that stands first in a text, and the index behind it, or the refusal and the byte at which it
 /// stands.
 fn told(alloc: Global, text: &[u8], depth: u8) -> Result<String, test::Fail>
     requires { depth ≤ 128 }
@@ -166,7 +166,7 @@ fn told(alloc: Global, text: &[u8], depth: u8) -> Result<String, test::Fail>
     Ok(out)
 }
 
-/// Each row is a text, the nesting of its place, and what `told` says of it.
+/// Each row is a text, the nesting of where it stands, and what `told` says of it.
 fn check(rt: &impl Abort, alloc: Global, rows: &[(&[u8], u8, &[u8])]) -> Result<(), test::Fail> {
     for (text, depth, want) in rows {
         if *depth > 128 {
@@ -178,7 +178,7 @@ fn check(rt: &impl Abort, alloc: Global, rows: &[(&[u8], u8, &[u8])]) -> Result<
     Ok(())
 }
 
-static CLAUSES: [(&[u8], u8, &[u8]); 23] = [
+static CLAUSES: [(&[u8], u8, &[u8]); 25] = [
     (b"//@ requires a;", 0, b"4 requires a, 3"),
     (b"//@ ensures a == \\old(b);", 0, b"4 ensures Equal, 8"),
     (b"//@ when a;", 0, b"4 when a, 3"),
@@ -222,6 +222,16 @@ static CLAUSES: [(&[u8], u8, &[u8]); 23] = [
     (b"//@ requires a;", 128, b"4 requires a, 3"),
     (b"//@ locks a, -b;", 127, b"4 locks a Negate, 6"),
     (b"//@ assert a;", 127, b"4 assert a, 3"),
+    (
+        b"//@ requires (\\forall int i; -1 < i && i < n; b);",
+        126,
+        b"4 requires another, 18",
+    ),
+    (
+        b"//@ requires (\\forall int i; 0 < i && i < n && a && b; c);",
+        127,
+        b"4 requires another, 21",
+    ),
 ];
 
 #[test]
@@ -229,7 +239,7 @@ fn reads_clauses(rt: HostRuntime) -> Result<(), test::Fail> {
     check(&rt, rt.alloc(), &CLAUSES)
 }
 
-static REFUSED: [(&[u8], u8, &[u8]); 35] = [
+static REFUSED: [(&[u8], u8, &[u8]); 42] = [
     (b"", 0, b"Syntax 0"),
     (b"requires a;", 0, b"Syntax 0"),
     (b"//@ a;", 0, b"Syntax 4"),
@@ -269,6 +279,17 @@ static REFUSED: [(&[u8], u8, &[u8]); 35] = [
     (b"//@ locks a, -b;", 128, b"TooDeep 14"),
     (b"//@ assert a;", 128, b"TooDeep 11"),
     (b"//@ assert -a;", 127, b"TooDeep 12"),
+    (
+        b"//@ requires (\\forall int i; -1 < i && i < n; b);",
+        127,
+        b"TooDeep 30",
+    ),
+    (b"//@ requires x.super;", 0, b"NotInProfile 15"),
+    (b"//@ locks a, x.y.goto;", 0, b"NotInProfile 17"),
+    (b"//@ assert x.\\max;", 0, b"NotInProfile 13"),
+    (b"//@ ensures -2147483648.f > a;", 0, b"BigLiteral 13"),
+    (b"//@ locks -2147483648[0];", 0, b"BigLiteral 11"),
+    (b"//@ requires a ==> b <== c;", 0, b"Syntax 21"),
 ];
 
 #[test]

@@ -1,67 +1,70 @@
--- What tokens tell of the place behind them.
-use Rattle.std.proofs.Common.{◌≡◌, ℕ, zero, suc, ◌+◌, ◌-◌, ◌≤◌, ◌<◌, Bool, true, false, List, [], ◌∷◌, length, ltb, refl, sym, ap, ◌∙◌, inl, inr, arith}
-use Rattle.std.specs.Prelude.{slice_get}
+-- What tokens tell of the index behind them.
+use Rattle.std.proofs.Common.{◌≡◌, ℕ, ◌+◌, ◌-◌, ◌≤◌, ◌<◌, Bool, true, false, List, length, ltb, refl, sym, ap, ◌∙◌, inl, inr, arith}
 use borrow.Author.Tests.{ltb-true, ltb-false}
 use Rattle.jr_lexer.specs.declared.kind.Kind.{Kind}
 use Rattle.jr_lexer.specs.declared.kind.Kind.TheVariants as k
 use Rattle.jr_lexer.specs.Token.{Token as TokenOf}
-use Rattle.jr_lexer.specs.Reading.{kind_at, jml_at, kind_of}
-use Rattle.jr_expr_parser.specs.Seen.{seen, seen_as}
-use Rattle.jr_stmt_parser.specs.Answers.{opens, MayBegin}
-use Rattle.jr_stmt_parser.specs.Parts.{Found}
-use Rattle.jr_stmt_parser.specs.Pieces.{Token, Closes}
-
-as_seen : (jml b : Bool) (a : Kind) → (seen_as jml b a ≡ k.End → ⊥) → seen_as jml b a ≡ a
-as_seen true true a h = refl
-as_seen false false a h = refl
-as_seen true false a h = absurd (h refl)
-as_seen false true a h = absurd (h refl)
+use Rattle.jr_lexer.specs.Reading.{kind_at, jml_at}
+use Rattle.jr_reading.specs.Seen.{seen, seen_as}
+use Rattle.jr_reading.specs.Steps.{refusal_at}
+use Rattle.jr_reading.proofs.Tokens as tokens
+use Rattle.jr_reading.proofs.Told.{refused_at}
+use Rattle.jr_expr_parser.specs.BigLiteral.{frees}
+use Rattle.jr_stmt_parser.specs.Gives.{Found, Blames}
+use Rattle.jr_stmt_parser.specs.Pieces.{opens, MayBegin, Fronts, declares, BeginsLocals, Token, Closes}
 
 pub kind_seen : (jml : Bool) (ts : List TokenOf) (i : ℕ) (a : Kind) → seen jml ts i ≡ a → (a ≡ k.End → ⊥) → kind_at ts i ≡ a
-unfolding seen
-kind_seen jml ts i a is h = sym (as_seen jml (jml_at ts i) (kind_at ts i) (λ e. h (sym is ∙ e))) ∙ is
-
-past : (ts : List TokenOf) (i : ℕ) → length ts ≤ i → kind_of (slice_get ts i) ≡ k.End
-past [] i le = refl
-past (t ∷ ts) zero le = absurd (omega arith)
-past (t ∷ ts) (suc i) le = past ts i (omega arith)
+kind_seen jml ts i a is h = (tokens.kind_seen jml ts i a is (tokens.not_same a k.End h)).1
 
 -- a token of a kind stands within the list
 pub within : (jml : Bool) (ts : List TokenOf) (i : ℕ) (a : Kind) → seen jml ts i ≡ a → (a ≡ k.End → ⊥) → i < length ts
-within jml ts i a is h = go (ltb i (length ts)) refl
-  where
-    go : (b : Bool) → ltb i (length ts) ≡ b → i < length ts
-    go true e = ltb-true i (length ts) e
-    go false e = absurd (h (sym (kind_seen jml ts i a is h) ∙ past ts i (ltb-false i (length ts) e)))
+within jml ts i a is h = tokens.taken jml ts i a is (tokens.not_same a k.End h)
 
 no_end : (a : Kind) → opens a ≡ true → a ≡ k.End → ⊥
 no_end a o e = let x : false ≡ true = ap opens (sym e) ∙ o in absurd cc
 
-pub begins_behind : (jml : Bool) (ts : List TokenOf) (a : Kind) (i : ℕ) {j : ℕ} {u : Unit {0}} → opens a ≡ true → Found (Token ts jml a) i u j → MayBegin ts j
-begins_behind jml ts a i o p = inl (i, p.it.2, ap opens (kind_seen jml ts i a p.it.0 (no_end a o)) ∙ o)
+pub begins_behind : (ts : List TokenOf) (a : Kind) (i : ℕ) {j : ℕ} {u : Unit {0}} → opens a ≡ true → Found (Token ts a) i u j → MayBegin ts j
+begins_behind ts a i o p = inl (i, p.it.2, ap opens (kind_seen false ts i a p.it.0 (no_end a o)) ∙ o)
 
-pub token_taken : (jml : Bool) (ts : List TokenOf) (a : Kind) {i j : ℕ} {u : Unit {0}} → Found (Token ts jml a) i u j → (i < j) × (i < length ts)
-token_taken jml ts a p = let e = p.it.2 in (omega arith, p.it.1)
+pub token_taken : (ts : List TokenOf) (a : Kind) {i j : ℕ} {u : Unit {0}} → Found (Token ts a) i u j → (i < j) × (i < length ts)
+token_taken ts a p = let e = p.it.2 in (omega arith, p.it.1)
 
-as_end : (jml b : Bool) (a : Kind) → a ≡ k.End → seen_as jml b a ≡ k.End
-as_end true true a e = e
-as_end false false a e = e
-as_end true false a e = refl
-as_end false true a e = refl
+pub no_truth : false ≡ true → ⊥
+no_truth e = cc
 
-pub past_end : (jml : Bool) (ts : List TokenOf) (i : ℕ) → length ts ≤ i → seen jml ts i ≡ k.End
+pub no_locals_past : (ts : List TokenOf) (i : ℕ) → length ts ≤ i → BeginsLocals ts i → ⊥
+no_locals_past ts i le b = let e : seen false ts i ≡ k.End = tokens.unseen false ts i le in no_truth (sym (ap (λ a. declares a (seen false ts (i + 1)) (seen false ts (i + 2))) e) ∙ b)
+
+pub no_colon_past : (ts : List TokenOf) (i : ℕ) → length ts ≤ i → seen false ts (i + 1) ≡ k.Colon → ⊥
+no_colon_past ts i le b = let e : seen false ts (i + 1) ≡ k.End = tokens.unseen false ts (i + 1) (omega arith) in let x : k.End ≡ k.Colon = sym e ∙ b in absurd cc
+
+-- ---- what stands in front of an expression
+
+frees_seen : (jml : Bool) (a : Kind) → opens a ≡ true → frees (seen_as false jml a) ≡ true
+frees_seen true a o = refl
+frees_seen false k.OpenBrace o = refl
+frees_seen false k.CloseBrace o = refl
+frees_seen false k.Semicolon o = refl
+frees_seen false k.CloseParen o = refl
+frees_seen false k.Else o = refl
+frees_seen false k.Do o = refl
+frees_seen false _ o = absurd cc
+
+frees_open : (ts : List TokenOf) (h : ℕ) → opens (kind_at ts h) ≡ true → frees (seen false ts h) ≡ true
 unfolding seen
-past_end jml ts i le = as_end jml (jml_at ts i) (kind_at ts i) (past ts i le)
+frees_open ts h o = frees_seen (jml_at ts h) (kind_at ts h) o
 
--- no `-` stands in front of a statement
-pub front_of : (ts : List TokenOf) (i : ℕ) → MayBegin ts i → seen false ts (i - 1) ≡ k.Minus → ⊥
-front_of ts i (inl (h, e, o)) m =
-    let f : h ≡ i - 1 = omega arith in
-    let x : k.Minus ≡ kind_at ts h = sym (kind_seen false ts h k.Minus (ap (seen false ts) f ∙ m) (λ e. cc)) in
-    let y : false ≡ true = ap opens x ∙ o in absurd cc
-front_of ts i (inr (h, e, l)) m =
-    let f : h + 1 ≡ i - 1 = omega arith in
-    let x : k.Colon ≡ k.Minus = sym l.colon ∙ (ap (seen false ts) f ∙ m) in absurd cc
+pub front_of : (ts : List TokenOf) (i : ℕ) → MayBegin ts i → Fronts ts i
+front_of ts i (inl (h, e, o)) = let f : h ≡ i - 1 = omega arith in ap (λ h. frees (seen false ts h)) (sym f) ∙ frees_open ts h o
+front_of ts i (inr (h, e, l)) = let f : h + 1 ≡ i - 1 = omega arith in ap (λ h. frees (seen false ts h)) (sym f) ∙ ap frees l.colon
+
+pub front_behind : (ts : List TokenOf) (a : Kind) {i j : ℕ} {u : Unit {0}} → frees a ≡ true → Found (Token ts a) i u j → Fronts ts j
+front_behind ts a {i = i} {j = j} o p = let e = p.it.2 in let f : i ≡ j - 1 = omega arith in ap (λ h. frees (seen false ts h)) (sym f) ∙ (ap frees p.it.0 ∙ o)
+
+-- ---- why the tokens do not go on
+
+pub blames : (ts : List TokenOf) (i : ℕ) → Blames ts i (refusal_at ts i)
+blames ts i = refused_at (Blames ts i) ts i (λ s. tt) (λ j on e. record { at = j; behind = on; span = refl; word = inl (inl e) })
 
 -- where a block goes on
 pub open_within : (ts : List TokenOf) (i : ℕ) → (Closes ts i → ⊥) → i < length ts

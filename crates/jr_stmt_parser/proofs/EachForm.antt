@@ -8,12 +8,14 @@ use Rattle.jr_ast.specs.declared.name.Name.{Name}
 use Rattle.jr_ast.specs.declared.name.ElementType.{ElementType}
 use Rattle.jr_ast.specs.declared.name.TypeName.{TypeName}
 use Rattle.jr_ast.specs.Expressions.{Expr}
-use Rattle.jr_ast.specs.Statements.{Stmt, Stmts, stmts, Catches, no_catch, and_catch, catches, Catch, Declarator, ForInit, Declares, Evaluates, Part as Printed}
+use Rattle.jr_ast.specs.Statements.{Stmt, Stmts, stmts, Catches, no_catch, and_catch, catches, Catch, Declarator, ForInit, Declares, Evaluates, Part}
 use Rattle.jr_ast.specs.Statements as s
-use Rattle.jr_expr_parser.specs.Seen.{seen, name_at}
-use Rattle.jr_expr_parser.specs.Operators.{element_of, reach}
+use Rattle.jr_reading.specs.Seen.{seen, name_at}
+use Rattle.jr_reading.specs.Types.{single, array, element_of}
+use Rattle.jr_reading.specs.Listed as commas
+use Rattle.jr_expr_parser.specs.Operators.{reach}
 use Rattle.jr_expr_parser.specs.Nesting.{nesting as nesting_of_expr}
-use Rattle.jr_expr_parser.specs.Grammar.{Spells}
+use Rattle.jr_jml_parser.proofs.Asserts.{assert_starts}
 use Rattle.jr_stmt_parser.specs.Grammar as g
 use Rattle.jr_stmt_parser.specs.Nesting.{nesting, under, under_declarators, under_init}
 use Rattle.jr_base.specs.declared.refusal.Refusal.{Refusal}
@@ -24,11 +26,11 @@ use Rattle.jr_ast.specs.declared.stmt.Stmt.{Stmt as StmtTree}
 use Rattle.jr_ast.specs.Statements.{view_stmt}
 use Rattle.jr_ast.specs.declared.stmt.Form.{Form}
 use Rattle.jr_stmt_parser.specs.Answers as answers
-use Rattle.jr_stmt_parser.specs.Answers.{MayBegin}
-use Rattle.jr_stmt_parser.specs.Parts.{Part, Found, Nothing, Refuses, Fails, Gives}
+use Rattle.jr_stmt_parser.specs.Labels.{Begins, OtherLabel, opened}
+use Rattle.jr_stmt_parser.specs.Gives.{Piece, Found, Nothing, Refuses, Fails, GivesIn, GivesStatement, OpensIn}
 use Rattle.jr_stmt_parser.specs.Pieces as p
 use Rattle.jr_stmt_parser.proofs.Begins.{within}
-use Rattle.jr_stmt_parser.proofs.Parts.{found_as, fails_as}
+use Rattle.jr_stmt_parser.proofs.Gives.{found_as, fails_as}
 use Rattle.jr_stmt_parser.proofs.Firsts.{starts, begins, begins_not, alone, array_type}
 use Rattle.jr_stmt_parser.proofs.Lists.{stops, tk, sn, stopped, standing, first_declared, locals_to, locals_of, effect_to, effect_of, effects_to, effects_of, first_effect, optional_to, optional_of, updates_to, updates_of, parts_to, parts_of}
 use Rattle.jr_stmt_parser.proofs.Statements.{each_above, each_shallow, shallow_each, each_under, under_each, block_to, block_of, catches_to, catches_of, seen_other}
@@ -37,7 +39,7 @@ pub label_taken : (ts : List TokenOf) (i : ℕ) {j : ℕ} → g.Label ts i → i
 label_taken ts i x e = (omega arith, within false ts i k.Name x.name (λ e. cc))
 
 module _ (ts : List TokenOf) (d : ℕ) where
-  abbrev S : Part Stmt
+  abbrev S : Piece Stmt
   S = p.Inner ts d
 
   -- a statement that was made
@@ -56,7 +58,7 @@ module _ (ts : List TokenOf) (d : ℕ) where
   name_is : {i j : ℕ} {x : Name} → i ≡ j → name_at ts j ≡ x → name_at ts i ≡ x
   name_is e q = ap (name_at ts) e ∙ q
 
-  init_to : {h m : ℕ} {x : ForInit} → d ≤ 128 → p.Init ts (suc d) 128 h x m → g.Init ts h x m × (d + under_init x ≤ 128)
+  pub init_to : {h m : ℕ} {x : ForInit} → d ≤ 128 → p.Init ts (suc d) 128 h x m → g.Init ts h x m × (d + under_init x ≤ 128)
   init_to {h = h} {m = m} fit (inl (s, (q, r))) = subst (λ x. g.Init ts h x m × (d + under_init x ≤ 128)) q (subst (λ m. g.Init ts h (Evaluates []) m) r g.nothing, omega arith)
   init_to {h = h} {m = m} fit (inr (n, inl (b, (x, a, l, (q, r))))) = let w = locals_to ts d fit l in subst (λ x. g.Init ts h x m × (d + under_init x ≤ 128)) q (subst (λ m. g.Init ts h (Declares x.0 x.1) m) r (g.declares w.0), w.1)
   init_to {h = h} {m = m} fit (inr (n, inr (b, (es, a, x, (q, r))))) = let w = effects_to ts d x in subst (λ x. g.Init ts h x m × (d + under_init x ≤ 128)) q (subst (λ m. g.Init ts h (Evaluates es) m) r (g.evaluates w.0), w.1)
@@ -156,7 +158,7 @@ module _ (ts : List TokenOf) (d : ℕ) where
         done 128 i (g.synchronized w (sn ts ea o) (expr_at e2 st.spelled) z (block_at (sym ef) bl.0)) (omega arith) (q, r)
 
     asserts_to : p.Asserts ts (suc d) i 128 i y j → S 128 i y j
-    asserts_to (u, a, (w, _, ea), (e, b, (st, le), (v, c, (z, _, ec), (q, r)))) = done 128 i (g.assert w (subst (λ n. Spells true ts 2 2 n e b) (sym ea) st.spelled) z) (omega arith) (q, ec ∙ r)
+    asserts_to (e, a, (x, le), (q, r)) = done 128 i (g.assert x) (omega arith) (q, r)
 
     commits_to : p.Commits ts (suc d) i 128 i y j → S 128 i y j
     commits_to (u, a, (lb, ea), (s1, m, (y1, l1), (n, (q, r)))) = done 128 i (g.commit lb (stmt_at (sym ea) y1) n) (omega arith) (q, r)
@@ -214,14 +216,14 @@ module _ (ts : List TokenOf) (d : ℕ) where
   declares_by i a b c x y z e = ap (λ a. p.declares a (seen false ts (i + 1)) (seen false ts (i + 2))) x ∙ (ap (λ b. p.declares a b (seen false ts (i + 2))) y ∙ (ap (λ c. p.declares a b c) z ∙ e))
 
   locals_kind : {i j : ℕ} {t : TypeName} {ds : List Declarator} → g.Locals ts i t ds j → BeginsType i × DeclaresAt i
-  locals_kind {i = i} (g.locals (g.single {t = t} e) y) = go (type_kind i (seen false ts i) t refl e)
+  locals_kind {i = i} (g.locals (single {t = t} e) y) = go (type_kind i (seen false ts i) t refl e)
     where
       go : BeginsType i → BeginsType i × DeclaresAt i
       go (inl x) = (inl x, declares_by i k.Int k.Name (seen false ts (i + 2)) x (first_declared ts d y) refl refl)
       go (inr (inl x)) = (inr (inl x), declares_by i k.Long k.Name (seen false ts (i + 2)) x (first_declared ts d y) refl refl)
       go (inr (inr (inl x))) = (inr (inr (inl x)), declares_by i k.Boolean k.Name (seen false ts (i + 2)) x (first_declared ts d y) refl refl)
       go (inr (inr (inr x))) = (inr (inr (inr x)), declares_by i k.Name k.Name (seen false ts (i + 2)) x (first_declared ts d y) refl refl)
-  locals_kind {i = i} (g.locals (g.array {t = t} e o z) y) = go (type_kind i (seen false ts i) t refl e)
+  locals_kind {i = i} (g.locals (array {t = t} e o z) y) = go (type_kind i (seen false ts i) t refl e)
     where
       go : BeginsType i → BeginsType i × DeclaresAt i
       go (inl x) = (inl x, declares_by i k.Int k.OpenBracket k.CloseBracket x o z refl)
@@ -268,8 +270,8 @@ module _ (ts : List TokenOf) (d : ℕ) where
       inr (λ e. begins_not ts f.2.spelled e refl, inr (first_undeclared x z, (es, m, effects_of ts d l x (stopped ts m z refl) (λ c. let y : k.Semicolon ≡ k.Comma = sym z ∙ c in absurd cc) le, (refl, refl))))
     where
       first_undeclared : {h m : ℕ} {es : List Expr} → g.Effects ts h es m → seen false ts m ≡ k.Semicolon → DeclaresAt h → ⊥
-      first_undeclared (g.last {j = j} x) z b = undeclared x.spelled (stopped ts j z refl) b
-      first_undeclared (g.more {j = j} x c r) z b = undeclared x.spelled (stopped ts j c refl) b
+      first_undeclared (commas.last {j = j} x) z b = undeclared x.spelled (stopped ts j z refl) b
+      first_undeclared (commas.more {j = j} x c r) z b = undeclared x.spelled (stopped ts j c refl) b
 
   -- a form of a kind, of which the token is
   put : (l i : ℕ) (y : Stmt) (j : ℕ) {a b : Kind} → seen false ts i ≡ a → seen false ts i ≡ b → p.FormBy ts (suc d) a i l i y j → p.FormBy ts (suc d) b i l i y j
@@ -361,8 +363,7 @@ module _ (ts : List TokenOf) (d : ℕ) where
       put l i _ _ w is (tt, i + 1, tk ts i refl w refl, (tt, i + 2, tk ts (i + 1) refl o (omega arith), (e, j, up_to l x z refl (omega arith), (tt, j + 1, tk ts j refl z refl, (b.0, o', b.2, (ap (λ ss. s.Synchronized (span_at ts i) e ss) b.1, refl))))))
   form_of l i {j = j} a is (g.commit {a = b} x y n) le = put l i _ _ x.name is (inr (λ q. let z : k.Colon ≡ k.Dot = sym x.colon ∙ q.dot in absurd cc, inl (x.colon, (tt, i + 2, (x, refl), (b, j, (y, omega arith), (n, (refl, refl)))))))
   form_of l i a is (g.print {j = j} {ps = ps} x y le8 z u) le = put l i _ _ x.system is (inl (x, (tt, i + 6, (x, refl), (ps, j, parts_of ts d l y z le, (le8, (tt, j + 1, tk ts j refl z refl, (tt, j + 2, tk ts (j + 1) refl u (omega arith), (refl, refl))))))))
-  form_of l i a is (g.assert {j = j} {e = e} w x z) le =
-      put l i _ _ (seen_other ts i k.Assert w (λ e. cc)) is (tt, i + 1, (w, within true ts i k.Assert w (λ e. cc), refl), (e, j, (record { spelled = x; ends = let r : reach (seen true ts j) ≡ 0 = ap reach z in omega arith }, omega arith), (tt, j + 1, (z, within true ts j k.Semicolon z (λ e. cc), refl), (refl, refl))))
+  form_of l i {j = j} a is (g.assert {e = e} x) le = put l i _ _ (seen_other ts i k.Assert (assert_starts x) (λ e. cc)) is (e, j, (x, omega arith), (refl, refl))
 
 -- ---- a whole statement
 
@@ -371,20 +372,20 @@ statement_found ts d n i {x = x} {y = y} {j = j} e fit q f =
     let g : Found (p.FormBy ts (suc d) (seen false ts i) i) i x j = subst (λ n. Found (p.FormBy ts n (seen false ts i) i) i x j) e f in
     subst (λ y. Found (p.Inner ts d) i y j) (sym q) (found_as (form_to ts d fit i (seen false ts i) refl) (λ l y m r. form_of ts d l i (seen false ts i) refl r.0 r.1) g)
 
-pub statement_fails : (ts : List TokenOf) (d n i : ℕ) {f : Fail} → n ≡ suc d → Fails ts n (p.FormBy ts n (seen false ts i) i) i f → Fails ts (suc d) (p.Inner ts d) i f
-statement_fails ts d n i {f = f} e x =
-    let y : Fails ts (suc d) (p.FormBy ts (suc d) (seen false ts i) i) i f = subst (λ n. Fails ts n (p.FormBy ts n (seen false ts i) i) i f) e x in
+pub statement_fails : {L : ℕ → Type 0} (ts : List TokenOf) (d n i : ℕ) {f : Fail} → n ≡ suc d → Fails L ts n (p.FormBy ts n (seen false ts i) i) i f → Fails L ts (suc d) (p.Inner ts d) i f
+statement_fails {L = L} ts d n i {f = f} e x =
+    let y : Fails L ts (suc d) (p.FormBy ts (suc d) (seen false ts i) i) i f = subst (λ n. Fails L ts n (p.FormBy ts n (seen false ts i) i) i f) e x in
     fails_as (λ l y m r. form_of ts d l i (seen false ts i) refl r.0 r.1) y
 
 -- a label that is no `commit`
-pub label_refused : (ts : List TokenOf) (depth i : ℕ) {f : Fail} → MayBegin ts i → seen false ts i ≡ k.Name → seen false ts (i + 1) ≡ k.Colon → (g.Label ts i → ⊥) → f ≡ Refused (refusal.NotInProfile (span_at ts i)) → Fails ts depth (p.Commits ts depth i) i f
-label_refused ts depth i b n c not e = subst (λ f. Fails ts depth (p.Commits ts depth i) i f) (sym e) (record {
+pub label_refused : (ts : List TokenOf) (o depth i : ℕ) {f : Fail} → Begins ts o i → seen false ts i ≡ k.Name → seen false ts (i + 1) ≡ k.Colon → (g.Label ts i → ⊥) → f ≡ Refused (refusal.NotInProfile (span_at ts i)) → Fails (OtherLabel ts o) ts depth (p.Commits ts depth i) i f
+label_refused ts o depth i b n c not e = subst (λ f. Fails (OtherLabel ts o) ts depth (p.Commits ts depth i) i f) (sym e) (record {
   why = (λ l y m (u, a, (lb, q), r). not lb, record { at = i; behind = omega arith; span = refl; word = inr (record { begins = b; name = n; text = λ t. not (record { name = n; text = t; colon = c }); colon = c }) });
 })
 
 -- ---- a whole block
 
-refuses_block : (ts : List TokenOf) (depth i : ℕ) (r : Refusal) → Refuses ts depth (p.Block ts depth) i r → answers.Refuses ts i depth r
+refuses_block : (ts : List TokenOf) (depth i : ℕ) (r : Refusal) → Refuses (OtherLabel ts i) ts depth (p.Block ts depth) i r → answers.Refuses ts i depth r
 refuses_block ts depth i (refusal.Syntax s) x = λ ss j b. none ts depth i x ss j b
   where
     none : (ts : List TokenOf) (depth i : ℕ) → Nothing (p.Block ts depth) i → (ss : Stmts) (j : ℕ) → g.Block ts i ss j → ⊥
@@ -394,22 +395,22 @@ refuses_block ts depth i (refusal.BigLiteral s) x = (λ ss j b. let l = each_abo
 refuses_block ts depth i (refusal.TooDeep s) x = (λ ss j b e. let y = block_of ts depth 128 b (shallow_each depth ss e) in x.0 y.0 j y.2, x.1)
 refuses_block ts depth i _ x = absurd x
 
-pub block_answers : (ts : List TokenOf) (depth i : ℕ) (r : Result (List StmtTree × ℕ) Fail) → Gives (map view_stmt) ts depth (p.Block ts depth) i r → answers.Answers ts i depth r
+pub block_answers : (ts : List TokenOf) (depth i : ℕ) (r : Result (List StmtTree × ℕ) Fail) → GivesIn (OpensIn ts i) (map view_stmt) ts depth (p.Block ts depth) i r → answers.Answers ts i depth r
 block_answers ts depth i (Ok r) x = let b = block_to ts depth 128 x.it in record { stands = b.0; shallow = each_shallow depth (stmts (map view_stmt r.0)) b.1 }
 block_answers ts depth i (Err Memory) x = tt
-block_answers ts depth i (Err (Refused r)) x = refuses_block ts depth i r x.why
+block_answers ts depth i (Err (Refused r)) x = refuses_block ts depth i r (x i (λ w. opened w)).why
 
 -- ---- the form of the kind that is seen
 
-pub gives_by : (view : Form → Stmt) (ts : List TokenOf) (depth i : ℕ) (a b : Kind) (r : Result (Form × ℕ) Fail) → b ≡ seen false ts i → b ≡ a → Gives view ts depth (p.FormBy ts depth a i) i r → Gives view ts depth (p.FormBy ts depth (seen false ts i) i) i r
-gives_by view ts depth i a b r e q x = subst (λ a. Gives view ts depth (p.FormBy ts depth a i) i r) (sym q ∙ e) x
+pub gives_by : (view : Form → Stmt) (ts : List TokenOf) (depth i : ℕ) (a b : Kind) (r : Result (Form × ℕ) Fail) → b ≡ seen false ts i → b ≡ a → GivesStatement view ts depth (p.FormBy ts depth a i) i r → GivesStatement view ts depth (p.FormBy ts depth (seen false ts i) i) i r
+gives_by view ts depth i a b r e q x = subst (λ a. GivesStatement view ts depth (p.FormBy ts depth a i) i r) (sym q ∙ e) x
 
 pub default_by : (view : Form → Stmt) (ts : List TokenOf) (depth i : ℕ) (a : Kind) (r : Result (Form × ℕ) Fail) → a ≡ seen false ts i
     → (a ≡ k.Semicolon → ⊥) → (a ≡ k.OpenBrace → ⊥) → (a ≡ k.Int → ⊥) → (a ≡ k.Long → ⊥) → (a ≡ k.Boolean → ⊥) → (a ≡ k.Final → ⊥) → (a ≡ k.If → ⊥) → (a ≡ k.While → ⊥) → (a ≡ k.Do → ⊥) → (a ≡ k.For → ⊥) → (a ≡ k.Return → ⊥) → (a ≡ k.Break → ⊥) → (a ≡ k.Continue → ⊥) → (a ≡ k.Throw → ⊥) → (a ≡ k.Try → ⊥) → (a ≡ k.Synchronized → ⊥) → (a ≡ k.Name → ⊥) → (a ≡ k.End → ⊥)
-    → Gives view ts depth (p.Evaluations ts depth i) i r → Gives view ts depth (p.FormBy ts depth (seen false ts i) i) i r
-default_by view ts depth i a r e n1 n2 n3 n4 n5 n6 n7 n8 n9 n10 n11 n12 n13 n14 n15 n16 n17 n18 x = subst (λ a. Gives view ts depth (p.FormBy ts depth a i) i r) e (go a n1 n2 n3 n4 n5 n6 n7 n8 n9 n10 n11 n12 n13 n14 n15 n16 n17 n18)
+    → GivesStatement view ts depth (p.Evaluations ts depth i) i r → GivesStatement view ts depth (p.FormBy ts depth (seen false ts i) i) i r
+default_by view ts depth i a r e n1 n2 n3 n4 n5 n6 n7 n8 n9 n10 n11 n12 n13 n14 n15 n16 n17 n18 x = subst (λ a. GivesStatement view ts depth (p.FormBy ts depth a i) i r) e (go a n1 n2 n3 n4 n5 n6 n7 n8 n9 n10 n11 n12 n13 n14 n15 n16 n17 n18)
   where
-    go : (a : Kind) → (a ≡ k.Semicolon → ⊥) → (a ≡ k.OpenBrace → ⊥) → (a ≡ k.Int → ⊥) → (a ≡ k.Long → ⊥) → (a ≡ k.Boolean → ⊥) → (a ≡ k.Final → ⊥) → (a ≡ k.If → ⊥) → (a ≡ k.While → ⊥) → (a ≡ k.Do → ⊥) → (a ≡ k.For → ⊥) → (a ≡ k.Return → ⊥) → (a ≡ k.Break → ⊥) → (a ≡ k.Continue → ⊥) → (a ≡ k.Throw → ⊥) → (a ≡ k.Try → ⊥) → (a ≡ k.Synchronized → ⊥) → (a ≡ k.Name → ⊥) → (a ≡ k.End → ⊥) → Gives view ts depth (p.FormBy ts depth a i) i r
+    go : (a : Kind) → (a ≡ k.Semicolon → ⊥) → (a ≡ k.OpenBrace → ⊥) → (a ≡ k.Int → ⊥) → (a ≡ k.Long → ⊥) → (a ≡ k.Boolean → ⊥) → (a ≡ k.Final → ⊥) → (a ≡ k.If → ⊥) → (a ≡ k.While → ⊥) → (a ≡ k.Do → ⊥) → (a ≡ k.For → ⊥) → (a ≡ k.Return → ⊥) → (a ≡ k.Break → ⊥) → (a ≡ k.Continue → ⊥) → (a ≡ k.Throw → ⊥) → (a ≡ k.Try → ⊥) → (a ≡ k.Synchronized → ⊥) → (a ≡ k.Name → ⊥) → (a ≡ k.End → ⊥) → GivesStatement view ts depth (p.FormBy ts depth a i) i r
     go k.Semicolon n1 n2 n3 n4 n5 n6 n7 n8 n9 n10 n11 n12 n13 n14 n15 n16 n17 n18 = absurd (n1 refl)
     go k.OpenBrace n1 n2 n3 n4 n5 n6 n7 n8 n9 n10 n11 n12 n13 n14 n15 n16 n17 n18 = absurd (n2 refl)
     go k.Int n1 n2 n3 n4 n5 n6 n7 n8 n9 n10 n11 n12 n13 n14 n15 n16 n17 n18 = absurd (n3 refl)

@@ -5,7 +5,7 @@ use Rattle.jr_lexer.specs.declared.kind.Kind.TheVariants as k
 use Rattle.jr_lexer.specs.Token.{Token}
 use Rattle.jr_ast.specs.declared.operator.Prefix.{Prefix}
 use Rattle.jr_ast.specs.Expressions.{Expr}
-use Rattle.jr_expr_parser.specs.Seen.{seen}
+use Rattle.jr_reading.specs.Seen.{seen}
 use Rattle.jr_expr_parser.specs.Operators.{prefix_of, infix_of, postfix_of, assignment_of, reach}
 use Rattle.jr_expr_parser.specs.Grammar.{Spells, Stands}
 use Rattle.jr_expr_parser.specs.Grammar as g

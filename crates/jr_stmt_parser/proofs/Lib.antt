@@ -1,13 +1,15 @@
 pub mod Begins
+pub mod Begun
 pub mod EachForm
-pub mod Elements
 pub mod Firsts
 pub mod Given
+pub mod Laws
 pub mod Leaves
 pub mod Lists
 pub mod Moves
 pub mod Once
-pub mod Parts
+pub mod Gives
 pub mod Statements
 pub mod Suffixes
+pub mod Types
 pub mod Views

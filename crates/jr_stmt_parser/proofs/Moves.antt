@@ -6,10 +6,14 @@ use Rattle.jr_lexer.specs.Token.{Token as TokenOf}
 use Rattle.jr_ast.specs.declared.name.TypeName.{TypeName}
 use Rattle.jr_ast.specs.Expressions.{Expr}
 use Rattle.jr_ast.specs.Statements.{Stmt, Stmts, Catches, Declarator, ForInit, Part}
-use Rattle.jr_expr_parser.specs.Seen.{seen}
+use Rattle.jr_reading.specs.Seen.{seen}
 use Rattle.jr_expr_parser.specs.Grammar.{Spells}
+use Rattle.jr_reading.specs.Listed as commas
+use Rattle.jr_reading.proofs.TypeNames.{type_on}
+use Rattle.jr_jml_parser.specs.Grammar.{asserts, condition}
+use Rattle.jr_jml_parser.proofs.Whole.{assert_advances}
 use Rattle.jr_stmt_parser.specs.Grammar as g
-use Rattle.jr_stmt_parser.specs.Answers.{opens, MayBegin}
+use Rattle.jr_stmt_parser.specs.Pieces.{opens, MayBegin}
 use Rattle.jr_stmt_parser.proofs.Begins.{kind_seen}
 use Rattle.jr_stmt_parser.proofs.Given.{advances}
 
@@ -17,24 +21,20 @@ module _ (ts : List TokenOf) where
   on : {jml : Bool} {q l i j : ℕ} {e : Expr} → Spells jml ts q l i e j → i < j
   on x = let a = (advances x).0 in omega arith
 
-  type_on : {i j : ℕ} {t : TypeName} → g.TypeOf ts i t j → i < j
-  type_on (g.single e) = omega arith
-  type_on (g.array e o z) = omega arith
-
   declared_on : {i j : ℕ} {x : Declarator} → g.Declared ts i x j → i < j
   declared_on (g.bare n) = omega arith
   declared_on (g.with_value n e x) = let a = on x in omega arith
 
   declarators_on : {i j : ℕ} {ds : List Declarator} → g.Declarators ts i ds j → i < j
-  declarators_on (g.last x) = declared_on x
-  declarators_on (g.more x c r) = let a = declared_on x in let b = declarators_on r in omega arith
+  declarators_on (commas.last x) = declared_on x
+  declarators_on (commas.more x c r) = let a = declared_on x in let b = declarators_on r in omega arith
 
   locals_on : {i j : ℕ} {t : TypeName} {ds : List Declarator} → g.Locals ts i t ds j → i < j
-  locals_on (g.locals x y) = let a = type_on x in let b = declarators_on y in omega arith
+  locals_on (g.locals x y) = let a = type_on ts x in let b = declarators_on y in omega arith
 
   effects_on : {i j : ℕ} {es : List Expr} → g.Effects ts i es j → i < j
-  effects_on (g.last x) = on x.spelled
-  effects_on (g.more x c r) = let a = on x.spelled in let b = effects_on r in omega arith
+  effects_on (commas.last x) = on x.spelled
+  effects_on (commas.more x c r) = let a = on x.spelled in let b = effects_on r in omega arith
 
   optional_on : {i j : ℕ} {o : Option Expr} → g.Optional ts i o j → i ≤ j
   optional_on g.missing = omega arith
@@ -84,7 +84,7 @@ module _ (ts : List TokenOf) where
     moves (g.synchronized w o x z y) = let a = on x in let b = block_moves y in omega arith
     moves (g.commit x y n) = let b = moves y in omega arith
     moves (g.print x y le z u) = let a = printed_on y in omega arith
-    moves (g.assert w x z) = let a = on x in omega arith
+    moves (g.assert x) = let a = (assert_advances x).0 in omega arith
 
     pub block_moves : {i j : ℕ} {ss : Stmts} → g.Block ts i ss j → i < j
     block_moves (g.braces w x z) = let a = statements_on x in omega arith
@@ -130,4 +130,4 @@ module _ (ts : List TokenOf) where
   ends (g.synchronized w o x z y) = block_ends y
   ends (g.commit x y n) = ends y
   ends (g.print {j = j} x y le z u) = behind false k.Semicolon (j + 1) u refl (omega arith)
-  ends (g.assert {j = j} w x z) = behind true k.Semicolon j z refl refl
+  ends (g.assert (asserts w (condition {j = j} x z))) = behind true k.Semicolon j z refl refl

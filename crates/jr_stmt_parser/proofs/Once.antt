@@ -1,22 +1,25 @@
--- At most one of each stands at a place.
-use Rattle.std.proofs.Common.{◌≡◌, ℕ, zero, suc, ◌+◌, ◌≤◌, Bool, true, false, List, ◌∷◌, Some, refl, sym, ap, ◌∙◌, subst, inl, inr, arith}
+-- At most one of each stands at an index.
+use Rattle.std.proofs.Common.{◌≡◌, ℕ, zero, suc, ◌+◌, ◌≤◌, false, List, ◌∷◌, Result, Ok, refl, sym, ap, ◌∙◌, subst, inl, inr, arith}
 use Rattle.jr_lexer.specs.declared.kind.Kind.{Kind}
 use Rattle.jr_lexer.specs.declared.kind.Kind.TheVariants as k
 use Rattle.jr_lexer.specs.Token.{Token as TokenOf}
+use Rattle.jr_base.specs.declared.refusal.Refusal.{Refusal}
+use Rattle.jr_ast.specs.declared.name.TypeName.{TypeName}
 use Rattle.jr_ast.specs.Statements.{stmts}
-use Rattle.jr_expr_parser.specs.Seen.{seen}
+use Rattle.jr_reading.specs.Seen.{seen}
+use Rattle.jr_jml_parser.proofs.Whole.{one_assert}
 use Rattle.jr_stmt_parser.specs.Answers.{OneBlock}
-use Rattle.jr_stmt_parser.specs.Parts.{Part, Then, Just, Split, When, Many, stop, step, Listed}
+use Rattle.jr_stmt_parser.specs.Gives.{Piece, Then, Just, Split, When, Many, stop, step, Listed}
 use Rattle.jr_stmt_parser.specs.Pieces as p
 use Rattle.jr_stmt_parser.proofs.Given.{one_tree}
 use Rattle.jr_stmt_parser.proofs.Statements.{each_above, block_of}
 use Rattle.jr_stmt_parser.proofs.EachForm.{form_of}
 
 -- what stands within a limit is the only such, whatever the limit of another
-pub record Once {A : Type 0} (l : ℕ) (P : Part A) : Type 0 where
+pub record Once {A : Type 0} (l : ℕ) (P : Piece A) : Type 0 where
   pub same : (i : ℕ) (x : A) (j n : ℕ) (y : A) (m : ℕ) → P l i x j → P n i y m → (x ≡ y) × (j ≡ m)
 
-once_then : {A B : Type 0} {l : ℕ} {P : Part A} {Q : A → Part B} → Once l P → ((x : A) → Once l (Q x)) → Once l (Then P Q)
+once_then : {A B : Type 0} {l : ℕ} {P : Piece A} {Q : A → Piece B} → Once l P → ((x : A) → Once l (Q x)) → Once l (Then P Q)
 once_then {l = l} {P = P} {Q = Q} p q = record {
   same = λ i x j n y m (a, b, c, d) (e, f, g, h).
       let z = p.same i a b n e f c g in
@@ -26,10 +29,10 @@ once_then {l = l} {P = P} {Q = Q} p q = record {
 once_made : {A : Type 0} {l : ℕ} {x : A} → Once l (Just x)
 once_made = record { same = λ i x j n y m a b. (sym a.0 ∙ b.0, sym a.1 ∙ b.1) }
 
-once_when : {A : Type 0} {T : Type 0} {l : ℕ} {P : Part A} → Once l P → Once l (When T P)
+once_when : {A : Type 0} {T : Type 0} {l : ℕ} {P : Piece A} → Once l P → Once l (When T P)
 once_when p = record { same = λ i x j n y m a b. p.same i x j n y m a.1 b.1 }
 
-once_split : {A : Type 0} {T : ℕ → Type 0} {l : ℕ} {P Q : Part A} → Once l P → Once l Q → Once l (Split T P Q)
+once_split : {A : Type 0} {T : ℕ → Type 0} {l : ℕ} {P Q : Piece A} → Once l P → Once l Q → Once l (Split T P Q)
 once_split {T = T} {l = l} {P = P} {Q = Q} p q = record { same = go }
   where
     go : (i : ℕ) (x : _) (j n : ℕ) (y : _) (m : ℕ) → Split T P Q l i x j → Split T P Q n i y m → (x ≡ y) × (j ≡ m)
@@ -38,7 +41,7 @@ once_split {T = T} {l = l} {P = P} {Q = Q} p q = record { same = go }
     go i x j n y m (inr (s, a)) (inl (t, b)) = absurd (s t)
     go i x j n y m (inr (s, a)) (inr (t, b)) = q.same i x j n y m a b
 
-once_many : {A : Type 0} {Stop : ℕ → Type 0} {l : ℕ} {Item : Part A} → Once l Item → Once l (Many Stop Item)
+once_many : {A : Type 0} {Stop : ℕ → Type 0} {l : ℕ} {Item : Piece A} → Once l Item → Once l (Many Stop Item)
 once_many {Stop = Stop} {l = l} {Item = Item} p = record { same = λ i x j n y m a b. go x j n y m a b }
   where
     go : {i : ℕ} (x : List _) (j n : ℕ) (y : List _) (m : ℕ) → Many Stop Item l i x j → Many Stop Item n i y m → (x ≡ y) × (j ≡ m)
@@ -50,30 +53,24 @@ once_many {Stop = Stop} {l = l} {Item = Item} p = record { same = λ i x j n y m
         let w = go es j n fs m q (subst (λ v. Many Stop Item n v fs m) (sym z.1) r) in
         (ap (λ e. e ∷ es) z.0 ∙ ap (λ es. f ∷ es) w.0, w.1)
 
-once_listed : {A : Type 0} {l : ℕ} {First : Part A} {Rest : Part (List A)} → Once l First → Once l Rest → Once l (Listed First Rest)
+once_listed : {A : Type 0} {l : ℕ} {First : Piece A} {Rest : Piece (List A)} → Once l First → Once l Rest → Once l (Listed First Rest)
 once_listed p q = once_then p (λ x. once_then q (λ xs. once_made))
 
 module _ (ts : List TokenOf) (l : ℕ) where
-  token : (jml : Bool) (a : Kind) → Once l (p.Token ts jml a)
-  token jml a = record { same = λ i x j n y m a b. (refl, sym a.2 ∙ b.2) }
+  token : (a : Kind) → Once l (p.Token ts a)
+  token a = record { same = λ i x j n y m a b. (refl, sym a.2 ∙ b.2) }
 
-  after : {A : Type 0} {a : Kind} {P : Part A} → Once l P → Once l (p.After ts a P)
-  after {a = a} q = once_then (token false a) (λ u. q)
+  after : {A : Type 0} {a : Kind} {P : Piece A} → Once l P → Once l (p.After ts a P)
+  after {a = a} q = once_then (token a) (λ u. q)
 
   named : Once l (p.Named ts)
   named = record { same = λ i x j n y m a b. (sym a.2 ∙ b.2, sym a.3 ∙ b.3) }
 
-  string : Once l (p.String ts)
-  string = record { same = λ i x j n y m a b. (sym a.2 ∙ b.2, sym a.3 ∙ b.3) }
-
-  some_is : {A : Type 0} (x y : A) → Some x ≡ Some y → x ≡ y
-  some_is x y e = cc
-
-  element : Once l (p.Element ts)
-  element = record { same = λ i x j n y m a b. (some_is x y (sym a.0 ∙ b.0), sym a.2 ∙ b.2) }
+  both : (x y : TypeName × ℕ) → ◌≡◌ {A = Result (TypeName × ℕ) Refusal} (Ok x) (Ok y) → x ≡ y
+  both x y e = cc
 
   typed : Once l (p.Typed ts)
-  typed = once_then element (λ t. once_split (after (after once_made)) once_made)
+  typed = record { same = λ i x j n y m a b. let e = both (x, j) (y, m) (sym a ∙ b) in (ap (λ (r : TypeName × ℕ). r.0) e, ap (λ (r : TypeName × ℕ). r.1) e) }
 
   module _ (d : ℕ) where
     value : Once l (p.Value ts d)
@@ -82,8 +79,11 @@ module _ (ts : List TokenOf) (l : ℕ) where
     factor : Once l (p.Factor ts d)
     factor = record { same = λ i x j n y m a b. one_tree false ts 15 i j m x y a.0 b.0 }
 
-    clause : Once l (p.Clause ts d)
-    clause = record { same = λ i x j n y m a b. one_tree true ts 2 i j m x y a.0 b.0 }
+    asserted : Once l (p.Asserted ts d)
+    asserted = record { same = λ i x j n y m a b. one_assert a.0 b.0 }
+
+    string : Once l (p.String ts d)
+    string = record { same = λ i x j n y m a b. (sym a.3 ∙ b.3, sym a.4 ∙ b.4) }
 
     declared : Once l (p.Declared ts d)
     declared = once_then named (λ x. once_split (after (once_then value (λ e. once_made))) once_made)
@@ -113,7 +113,7 @@ module _ (ts : List TokenOf) (l : ℕ) where
 
     module _ (inner : Once l (p.Inner ts d)) where
       block : Once l (p.Block ts d)
-      block = once_then (token false k.OpenBrace) (λ u. once_then (once_many inner) (λ ss. after once_made))
+      block = once_then (token k.OpenBrace) (λ u. once_then (once_many inner) (λ ss. after once_made))
 
       caught : Once l (p.Caught ts d)
       caught = after (after (once_then named (λ x. once_then named (λ y. after (once_then block (λ ss. once_made))))))
@@ -147,7 +147,7 @@ module _ (ts : List TokenOf) (l : ℕ) where
       form k.Try h = after (once_then block (λ ss. once_then (once_listed caught (once_many caught)) (λ cs. once_made)))
       form k.Synchronized h = after (after (once_then value (λ e. after (once_then block (λ ss. once_made)))))
       form k.Name h = names h
-      form k.End h = once_then (token true k.Assert) (λ u. once_then clause (λ e. once_then (token true k.Semicolon) (λ u. once_made)))
+      form k.End h = once_then asserted (λ e. once_made)
       form _ h = once_then effect (λ e. after once_made)
 
   -- by the room that is left for nesting

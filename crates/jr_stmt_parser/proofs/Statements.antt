@@ -9,12 +9,13 @@ use Rattle.jr_ast.specs.declared.name.ElementType.{ElementType}
 use Rattle.jr_ast.specs.declared.name.TypeName.{TypeName}
 use Rattle.jr_ast.specs.Expressions.{Expr}
 use Rattle.jr_ast.specs.Statements.{Stmt, Stmts, no_stmt, and_stmt, stmts, Catches, and_catch, catches, Catch, Declarator}
-use Rattle.jr_expr_parser.specs.Seen.{seen, seen_as, name_at}
-use Rattle.jr_expr_parser.specs.Operators.{element_of}
+use Rattle.jr_reading.specs.Seen.{seen, seen_as, name_at}
+use Rattle.jr_reading.specs.Types.{TypeOf, single, array, element_of}
 use Rattle.jr_expr_parser.specs.Grammar.{Spells}
+use Rattle.jr_jml_parser.specs.Grammar.{asserts}
 use Rattle.jr_stmt_parser.specs.Grammar as g
 use Rattle.jr_stmt_parser.specs.Nesting.{nesting, under_block, under_catches, Shallow}
-use Rattle.jr_stmt_parser.specs.Parts.{Many, stop, step}
+use Rattle.jr_stmt_parser.specs.Gives.{Many, stop, step}
 use Rattle.jr_stmt_parser.specs.Pieces as p
 use Rattle.jr_stmt_parser.proofs.Begins.{within}
 use Rattle.jr_stmt_parser.proofs.Firsts.{begins_not}
@@ -67,9 +68,9 @@ module _ (ts : List TokenOf) where
       none : {b : Kind} → a ≡ b → element_of b (name_at ts i) ≡ None → ⊥
       none x y = let z : None ≡ Some t = sym y ∙ (ap (λ a. element_of a (name_at ts i)) (sym x) ∙ e) in absurd cc
 
-  type_first : {i j : ℕ} {t : TypeName} → g.TypeOf ts i t j → (e : ElementType) × (element_of (seen false ts i) (name_at ts i) ≡ Some e)
-  type_first (g.single {t = t} e) = (t, e)
-  type_first (g.array {t = t} e o z) = (t, e)
+  type_first : {i j : ℕ} {t : TypeName} → TypeOf ts i t j → (e : ElementType) × (element_of (seen false ts i) (name_at ts i) ≡ Some e)
+  type_first (single {t = t} e) = (t, e)
+  type_first (array {t = t} e o z) = (t, e)
 
   -- where a statement begins
   abbrev First : ℕ → Type 0
@@ -105,7 +106,7 @@ module _ (ts : List TokenOf) where
   first_statement (g.synchronized w o x z y) = first _ w (λ e. cc) (λ e. cc)
   first_statement (g.commit x a n) = first _ x.name (λ e. cc) (λ e. cc)
   first_statement (g.print x y le z u) = first _ x.system (λ e. cc) (λ e. cc)
-  first_statement (g.assert {i = i} w x z) = (λ e. let y : k.End ≡ k.CloseBrace = sym (seen_other i k.Assert w (λ e. cc)) ∙ e in absurd cc, within true ts i k.Assert w (λ e. cc))
+  first_statement (g.assert (asserts {i = i} w x)) = (λ e. let y : k.End ≡ k.CloseBrace = sym (seen_other i k.Assert w (λ e. cc)) ∙ e in absurd cc, within true ts i k.Assert w (λ e. cc))
 
   -- ---- blocks, above whose statements n constructs are
 

@@ -6,7 +6,7 @@ use Rattle.jr_ast.specs.declared.expr.Shape.TheVariants as shape
 use Rattle.jr_ast.specs.declared.expr.Suffix.{Suffix}
 use Rattle.jr_ast.specs.Expressions.{Expr, applied, onto, view_shape, view_suffix}
 use Rattle.jr_ast.proofs.Views.{view_suffixed, onto_append}
-use Rattle.jr_stmt_parser.specs.Forms.{has_effect}
+use Rattle.jr_stmt_parser.specs.Grammar.{has_effect}
 
 last_of : (n : ℕ) (ss : List Suffix) (s : Suffix) → n + 1 ≡ length ss → s ≡ get_or ss n s → (front : List Suffix) × (ss ≡ front ++ s ∷ [])
 last_of zero [] s e h = absurd (omega arith)

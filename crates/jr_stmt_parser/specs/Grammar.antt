@@ -1,21 +1,39 @@
 -- What a statement is (JLS 14): one case a production. The place of a statement is that of its first token.
-use Rattle.std.specs.Prelude.{◌≡◌, ◌≢◌, ◌≤◌, ℕ, ◌+◌, true, false, List, [], ◌∷◌, length, Option, Some, None, codes}
+use Rattle.std.specs.Prelude.{◌≡◌, ◌≢◌, ◌≤◌, ℕ, ◌+◌, Bool, true, false, List, [], ◌∷◌, length, Option, Some, None, codes}
 use Rattle.jr_lexer.specs.declared.kind.Kind.TheVariants as k
 use Rattle.jr_lexer.specs.Token.{Token}
 use Rattle.jr_lexer.specs.Reading.{text_at, span_at}
 use Rattle.jr_ast.specs.declared.name.Name.{Name}
-use Rattle.jr_ast.specs.declared.name.ElementType.{ElementType}
 use Rattle.jr_ast.specs.declared.name.TypeName.{TypeName}
-use Rattle.jr_ast.specs.declared.name.TypeName.TheVariants as types
+use Rattle.jr_ast.specs.declared.operator.Prefix.TheVariants as prefixes
 use Rattle.jr_ast.specs.Expressions.{Expr}
+use Rattle.jr_ast.specs.Expressions as exprs
 use Rattle.jr_ast.specs.Statements.{Stmt, Stmts, no_stmt, and_stmt, Catches, no_catch, and_catch, Declarator, ForInit, Declares, Evaluates, Part, Text, Value}
 use Rattle.jr_ast.specs.Statements as s
-use Rattle.jr_expr_parser.specs.Seen.{seen, name_at}
-use Rattle.jr_expr_parser.specs.Operators.{element_of}
+use Rattle.jr_reading.specs.Seen.{seen, name_at}
+use Rattle.jr_reading.specs.Types.{TypeOf}
+use Rattle.jr_reading.specs.Listed.{Listed}
 use Rattle.jr_expr_parser.specs.Grammar.{Spells}
-use Rattle.jr_stmt_parser.specs.Forms.{has_effect, is_locals}
+use Rattle.jr_jml_parser.specs.Grammar.{SpellsAssert}
 
--- An expression of code from place i up to place j.
+-- an assignment, an increment or decrement, a call or a `new` (JLS 14.8)
+abbrev pub has_effect : Expr → Bool
+has_effect (exprs.Assignment at op a b) = true
+has_effect (exprs.Prefixed at prefixes.Increment a) = true
+has_effect (exprs.Prefixed at prefixes.Decrement a) = true
+has_effect (exprs.Postfixed at op a) = true
+has_effect (exprs.Call at m es) = true
+has_effect (exprs.CallOf at a m es) = true
+has_effect (exprs.NewObject at x es) = true
+has_effect (exprs.NewArray at t a) = true
+has_effect _ = false
+
+-- declared variables
+abbrev pub is_locals : Stmt → Bool
+is_locals (s.Locals at t ds) = true
+is_locals _ = false
+
+-- An expression of code from index i up to index j.
 abbrev pub Expression : List Token → ℕ → Expr → ℕ → Type 0
 Expression ts i e j = Spells false ts 2 1 i e j
 
@@ -24,30 +42,21 @@ pub record Effect (ts : List Token) (i : ℕ) (e : Expr) (j : ℕ) : Type 0 wher
   pub spelled : Expression ts i e j
   pub effect : has_effect e ≡ true
 
--- One or more, with commas between.
-pub data Effects (ts : List Token) : ℕ → List Expr → ℕ → Type 0 where
-  last : {i j : ℕ} {e : Expr} → Effect ts i e j → Effects ts i (e ∷ []) j
-  more : {i j m : ℕ} {e : Expr} {es : List Expr} → Effect ts i e j → seen false ts j ≡ k.Comma → Effects ts (j + 1) es m → Effects ts i (e ∷ es) m
+abbrev pub Effects : List Token → ℕ → List Expr → ℕ → Type 0
+Effects ts = Listed false ts (Effect ts)
 
 -- An expression that may be missing.
 pub data Optional (ts : List Token) : ℕ → Option Expr → ℕ → Type 0 where
   missing : {i : ℕ} → Optional ts i None i
   given : {i j : ℕ} {e : Expr} → Expression ts i e j → Optional ts i (Some e) j
 
--- A type (JLS 4.1, 10.1): `int`, `boolean` or a class, or an array of one of these.
-pub data TypeOf (ts : List Token) : ℕ → TypeName → ℕ → Type 0 where
-  single : {i : ℕ} {t : ElementType} → element_of (seen false ts i) (name_at ts i) ≡ Some t → TypeOf ts i (types.Single t) (i + 1)
-  array : {i : ℕ} {t : ElementType} → element_of (seen false ts i) (name_at ts i) ≡ Some t → seen false ts (i + 1) ≡ k.OpenBracket → seen false ts (i + 2) ≡ k.CloseBracket → TypeOf ts i (types.ArrayOf t) (i + 3)
-
 -- A declared variable (JLS 14.4.1).
 pub data Declared (ts : List Token) : ℕ → Declarator → ℕ → Type 0 where
   bare : {i : ℕ} → seen false ts i ≡ k.Name → Declared ts i (record { name = name_at ts i; initial = None }) (i + 1)
   with_value : {i j : ℕ} {e : Expr} → seen false ts i ≡ k.Name → seen false ts (i + 1) ≡ k.Equal → Expression ts (i + 2) e j → Declared ts i (record { name = name_at ts i; initial = Some e }) j
 
--- One or more, with commas between.
-pub data Declarators (ts : List Token) : ℕ → List Declarator → ℕ → Type 0 where
-  last : {i j : ℕ} {d : Declarator} → Declared ts i d j → Declarators ts i (d ∷ []) j
-  more : {i j m : ℕ} {d : Declarator} {ds : List Declarator} → Declared ts i d j → seen false ts j ≡ k.Comma → Declarators ts (j + 1) ds m → Declarators ts i (d ∷ ds) m
+abbrev pub Declarators : List Token → ℕ → List Declarator → ℕ → Type 0
+Declarators ts = Listed false ts (Declared ts)
 
 -- Variables of one type (JLS 14.4).
 pub data Locals (ts : List Token) : ℕ → TypeName → List Declarator → ℕ → Type 0 where
@@ -63,7 +72,7 @@ pub data Updates (ts : List Token) : ℕ → List Expr → ℕ → Type 0 where
   nothing : {i : ℕ} → Updates ts i [] i
   evaluates : {i j : ℕ} {es : List Expr} → Effects ts i es j → Updates ts i es j
 
--- The tokens at a place are `System . out . println (`.
+-- The tokens from i on are `System . out . println (`.
 pub record BeginsPrint (ts : List Token) (i : ℕ) : Type 0 where
   pub system : seen false ts i ≡ k.Name
   pub system_text : text_at ts i ≡ codes "System"
@@ -98,7 +107,7 @@ pub record Label (ts : List Token) (i : ℕ) : Type 0 where
   pub text : text_at ts i ≡ codes "commit"
   pub colon : seen false ts (i + 1) ≡ k.Colon
 
--- Statement ts i s j: the tokens from place i up to place j spell the statement s.
+-- Statement ts i s j: the tokens from index i up to index j spell the statement s.
 mutual
   pub data Statement (ts : List Token) : ℕ → Stmt → ℕ → Type 0 where
     empty : {i : ℕ} → seen false ts i ≡ k.Semicolon → Statement ts i (s.Empty (span_at ts i)) (i + 1)
@@ -125,7 +134,7 @@ mutual
     commit : {i j : ℕ} {a : Stmt} → Label ts i → Statement ts (i + 2) a j → is_locals a ≡ false → Statement ts i (s.Commit (span_at ts i) a) j
     print : {i j : ℕ} {ps : List Part} → BeginsPrint ts i → Printed ts (i + 6) ps j → length ps ≤ 8 → seen false ts j ≡ k.CloseParen → seen false ts (j + 1) ≡ k.Semicolon → Statement ts i (s.Print (span_at ts i) ps) (j + 2)
     -- `assert` of JML (JML Reference Manual, "Assert Statements")
-    assert : {i j : ℕ} {e : Expr} → seen true ts i ≡ k.Assert → Spells true ts 2 2 (i + 1) e j → seen true ts j ≡ k.Semicolon → Statement ts i (s.Assert (span_at ts i) e) (j + 1)
+    assert : {i j : ℕ} {e : Expr} → SpellsAssert ts i e j → Statement ts i (s.Assert (span_at ts i) e) j
 
   -- `{ .. }` (JLS 14.2)
   pub data Block (ts : List Token) : ℕ → Stmts → ℕ → Type 0 where

@@ -1,7 +1,7 @@
-pub mod Forms
 pub mod Grammar
 pub mod Nesting
+pub mod Labels
 pub mod Answers
-pub mod Parts
+pub mod Gives
 pub mod Pieces
 pub mod Nests

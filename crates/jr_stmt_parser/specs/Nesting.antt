@@ -3,6 +3,7 @@ use Rattle.std.specs.Prelude.{◌≤◌, ℕ, suc, ◌+◌, max, List, [], ◌�
 use Rattle.jr_ast.specs.Expressions.{Expr}
 use Rattle.jr_ast.specs.Statements.{Stmt, Stmts, no_stmt, and_stmt, Catches, no_catch, and_catch, Declarator, ForInit, Declares, Evaluates, Part, Text, Value}
 use Rattle.jr_ast.specs.Statements as s
+use Rattle.jr_reading.specs.Limits.{nesting_limit}
 use Rattle.jr_expr_parser.specs.Nesting.{nesting as nesting_of_expr}
 
 -- ---- what stands directly under a statement or block: the greatest number of constructs above a node of
@@ -27,8 +28,9 @@ abbrev pub under_init : ForInit → ℕ
 under_init (Declares t ds) = under_declarators ds
 under_init (Evaluates es) = under_exprs es
 
+-- a string is a node as any other
 abbrev pub under_part : Part → ℕ
-under_part (Text bytes) = 0
+under_part (Text bytes) = 1
 under_part (Value e) = under e
 
 abbrev pub under_parts : List Part → ℕ
@@ -71,4 +73,4 @@ abbrev mutual
 -- each statement of a block, where depth constructs are above it, nests within the limit
 abbrev pub Shallow : ℕ → Stmts → Type 0
 Shallow depth no_stmt = Unit {0}
-Shallow depth (and_stmt a ss) = (depth + nesting a ≤ 128) × Shallow depth ss
+Shallow depth (and_stmt a ss) = (depth + nesting a ≤ nesting_limit) × Shallow depth ss

@@ -1,25 +1,27 @@
 //! The forms of statements that hold no others.
 
-ghost use Rattle.std.specs.Prelude.{◌≡◌, ◌≢◌, ◌<◌, ◌+◌, ◌-◌, ◌↔◌, true, false, IsTrue};
+ghost use Rattle.std.specs.Prelude.{◌≡◌, ◌<◌, ◌≤◌, ◌+◌, ◌-◌, ◌↔◌, false, IsTrue};
 ghost use Rattle.jr_ast.specs.Statements.{view_form};
 ghost use Rattle.jr_lexer.specs.Reading.{span_at, text_at};
 ghost use Rattle.jr_base.specs.declared.refusal.Fail.TheVariants as fails;
 ghost use Rattle.jr_base.specs.declared.refusal.Refusal.TheVariants as refusals;
 ghost use Rattle.jr_lexer.specs.declared.kind.Kind.TheVariants as k;
-ghost use Rattle.jr_expr_parser.specs.Seen.{seen};
+ghost use Rattle.jr_reading.specs.Limits.{nesting_limit};
+ghost use Rattle.jr_reading.specs.Seen.{seen};
 ghost use Rattle.jr_stmt_parser.specs.Grammar.{BeginsPrint, Label};
-ghost use Rattle.jr_stmt_parser.specs.Parts.{Gives, Passes};
+ghost use Rattle.jr_stmt_parser.specs.Gives.{Gives, Passes};
 ghost use Rattle.jr_stmt_parser.specs.Pieces as pieces;
 
-use crate::source::Source;
+use crate::code::Code;
 use jr_ast::{Form, Name};
 use jr_base::{Fail, Refusal};
+use jr_jml_parser::parse_assert;
 use jr_lexer::Kind;
 
 /// The most parts of a print.
 const MAX_PARTS: usize = 8;
 
-impl<'a> Source<'a> {
+impl<'a> Code<'a> {
     /// `;` (JLS 14.6).
     pub fn empty(&self, at: u32) -> Result<(Form, u32), Fail>
         ensures { Gives (λ f. view_form f (span_at self.now.tokens.now at)) self.now.tokens.now self.now.depth (pieces.Empties self.now.tokens.now self.now.depth at) at result }
@@ -49,7 +51,7 @@ impl<'a> Source<'a> {
 
     /// An expression that is evaluated for its effect (JLS 14.8).
     pub fn evaluation(&self, at: u32) -> Result<(Form, u32), Fail>
-        requires { seen false self.now.tokens.now (at - 1) ≢ k.Minus }
+        requires { pieces.Fronts self.now.tokens.now at }
         ensures { Gives (λ f. view_form f (span_at self.now.tokens.now at)) self.now.tokens.now self.now.depth (pieces.Evaluations self.now.tokens.now self.now.depth at) at result }
     {
         let (value, next) = self.effect(at)?;
@@ -118,12 +120,12 @@ impl<'a> Source<'a> {
 
     /// `assert` of JML (JML Reference Manual, "Assert Statements").
     pub fn asserts(&self, at: u32) -> Result<(Form, u32), Fail>
+        requires above { 0 < self.now.depth }
+        requires depth { self.now.depth ≤ nesting_limit + 1 }
         ensures { Gives (λ f. view_form f (span_at self.now.tokens.now at)) self.now.tokens.now self.now.depth (pieces.Asserts self.now.tokens.now self.now.depth at) at result }
     {
-        let start = self.expect_in(true, at, Kind::Assert)?;
-        let (clause, next) = self.clause(start)?;
-        let behind = self.expect_in(true, next, Kind::Semicolon)?;
-        Ok((Form::Assert(clause), behind))
+        let (condition, behind) = parse_assert(self.alloc, self.tokens, at, self.depth - 1)?;
+        Ok((Form::Assert(condition), behind))
     }
 
     fn names(&self, at: u32, text: &[u8]) -> bool
@@ -146,7 +148,7 @@ impl<'a> Source<'a> {
             && self.sees(at + 5, Kind::OpenParen)
     }
 
-    /// The place behind `System . out . println (`.
+    /// The index behind `System . out . println (`.
     fn opened(&self, at: u32) -> Result<u32, Fail>
         ensures { Passes self.now.tokens.now self.now.depth (pieces.Opened self.now.tokens.now self.now.depth) at result }
     {
@@ -195,7 +197,7 @@ impl<'a> Source<'a> {
         Fail::Refused(Refusal::NotInProfile(self.tokens.span(at)))
     }
 
-    /// The place behind the label `commit`.
+    /// The index behind the label `commit`.
     pub fn label(&self, at: u32) -> Result<u32, Fail>
         ensures { Passes self.now.tokens.now self.now.depth (pieces.Labelled self.now.tokens.now self.now.depth) at result }
     {

@@ -1,14 +1,15 @@
-//! The reader of statements. The one promise: it gives the block that stands at a place, and the place
+//! The reader of statements. The one promise: it gives the block that stands at an index, and the index
 //! behind it, exactly where one stands there that nests within the limit. What a statement is stands in
-//! `specs/Grammar.antt`, how deep one nests in `specs/Nesting.antt`, and the answers in `specs/Answers.antt`.
+//! `specs/Grammar.antt`, how deep one nests in `specs/Nesting.antt`, where statements and labels stand in
+//! `specs/Labels.antt`, and the answers in `specs/Answers.antt`.
 #![tactic(auto)]
 
+mod code;
 mod effects;
 mod forms;
 mod parsing;
 mod pieces;
 mod reader;
-mod source;
 #[cfg(test)]
 mod tests;
 

@@ -1,106 +1,67 @@
 //! What holds no statements: types, expressions, declarations and the parts of a print.
 
-ghost use Rattle.std.specs.Prelude.{◌≡◌, ◌≢◌, ◌+◌, ◌-◌, ◌↔◌, true, false, option_map, map, IsTrue};
-ghost use Rattle.jr_ast.specs.Expressions.{view_expr, view_spec};
+ghost use Rattle.std.specs.Prelude.{◌≡◌, ◌<◌, ◌+◌, ◌-◌, ◌↔◌, true, false, option_map, map, IsTrue};
+ghost use Rattle.jr_ast.specs.Expressions.{view_expr};
 ghost use Rattle.jr_ast.specs.Statements.{view_declarator, view_init, view_part};
-ghost use Rattle.jr_lexer.specs.declared.kind.Kind.TheVariants as k;
-ghost use Rattle.jr_expr_parser.specs.Seen.{seen};
-ghost use Rattle.jr_stmt_parser.specs.Parts.{Gives, Passes};
+ghost use Rattle.jr_reading.specs.Seen.{seen};
+ghost use Rattle.jr_stmt_parser.specs.Gives.{Gives};
 ghost use Rattle.jr_base.specs.declared.refusal.Fail.TheVariants as fails;
 ghost use Rattle.jr_base.specs.declared.refusal.Refusal.TheVariants as refusals;
 ghost use Rattle.jr_lexer.specs.Reading.{span_at};
-ghost use Rattle.jr_stmt_parser.specs.Parts.{view_locals};
+ghost use Rattle.jr_stmt_parser.specs.Gives.{view_locals};
+ghost use Rattle.jr_reading.specs.Limits.{nesting_limit};
+ghost use Rattle.jr_expr_parser.specs.BigLiteral.{frees};
 ghost use Rattle.jr_stmt_parser.specs.Pieces as pieces;
 
+use crate::code::Code;
 use crate::effects::has_effect;
-use crate::source::Source;
-use jr_ast::{
-    ElementType, Expr, ForInit, LocalDeclaration, LocalDeclarator, Part, SpecExpr, TypeName,
-};
+use jr_ast::{Expr, ForInit, LocalDeclaration, LocalDeclarator, Part};
 use jr_base::{Fail, Refusal};
-use jr_expr_parser::{parse_expr, parse_spec_expr};
+use jr_expr_parser::{Level, parse_expr};
 use jr_lexer::Kind;
+use jr_reading::NESTING_LIMIT;
 use sqlite_items::Items;
 
-/// The most constructs above a node.
-pub const MAX_DEPTH: u8 = 128;
-
-impl<'a> Source<'a> {
-    fn element(&self, at: u32) -> Result<(ElementType, u32), Fail>
-        ensures { Gives (λ t. t) self.now.tokens.now self.now.depth (pieces.Element self.now.tokens.now) at result }
+impl<'a> Code<'a> {
+    /// Whether more constructs are above what stands here than may be.
+    pub fn is_too_deep(&self) -> bool
+        ensures { IsTrue result ↔ (nesting_limit < self.now.depth) }
     {
-        if self.sees(at, Kind::Int) {
-            let next = self.expect(at, Kind::Int)?;
-            return Ok((ElementType::Int, next));
-        }
-        if self.sees(at, Kind::Long) {
-            let next = self.expect(at, Kind::Long)?;
-            return Ok((ElementType::Long, next));
-        }
-        if self.sees(at, Kind::Boolean) {
-            let next = self.expect(at, Kind::Boolean)?;
-            return Ok((ElementType::Boolean, next));
-        }
-        let (name, behind) = self.name(at)?;
-        Ok((ElementType::Class(name), behind))
+        self.depth > NESTING_LIMIT
     }
 
-    /// A type (JLS 4.1, 10.1).
-    fn type_name(&self, at: u32) -> Result<(TypeName, u32), Fail>
-        ensures { Gives (λ t. t) self.now.tokens.now self.now.depth (pieces.Typed self.now.tokens.now) at result }
-    {
-        let (element, next) = self.element(at)?;
-        if self.sees(next, Kind::OpenBracket) {
-            let inside = self.expect(next, Kind::OpenBracket)?;
-            let behind = self.expect(inside, Kind::CloseBracket)?;
-            return Ok((TypeName::ArrayOf(element), behind));
-        }
-        Ok((TypeName::Single(element), next))
-    }
-
-    /// Why an expression that nests too deep is refused.
+    /// Why a node that is too deep is refused.
     pub fn too_deep(&self, at: u32) -> Fail
         ensures { result ≡ fails.Refused (refusals.TooDeep (span_at self.now.tokens.now at)) }
     {
         Fail::Refused(Refusal::TooDeep(self.tokens.span(at)))
     }
 
-    /// An expression behind another token than `-`.
+    /// An expression (JLS 15).
     pub fn value(&self, at: u32) -> Result<(Expr, u32), Fail>
-        requires { seen false self.now.tokens.now (at - 1) ≢ k.Minus }
+        requires { pieces.Fronts self.now.tokens.now at }
         ensures { Gives view_expr self.now.tokens.now self.now.depth (pieces.Value self.now.tokens.now self.now.depth) at result }
     {
-        if self.depth > MAX_DEPTH {
+        if self.is_too_deep() {
             return Err(self.too_deep(at));
         }
-        parse_expr(self.alloc, self.tokens, at, 1, self.depth)
+        parse_expr(self.alloc, self.tokens, at, Level::Any, self.depth)
     }
 
     /// An expression of which the loosest operators are `*`, `/` and `%`.
     fn factor(&self, at: u32) -> Result<(Expr, u32), Fail>
-        requires { seen false self.now.tokens.now (at - 1) ≢ k.Minus }
+        requires { pieces.Fronts self.now.tokens.now at }
         ensures { Gives view_expr self.now.tokens.now self.now.depth (pieces.Factor self.now.tokens.now self.now.depth) at result }
     {
-        if self.depth > MAX_DEPTH {
+        if self.is_too_deep() {
             return Err(self.too_deep(at));
         }
-        parse_expr(self.alloc, self.tokens, at, 11, self.depth)
-    }
-
-    /// An expression of a clause.
-    pub fn clause(&self, at: u32) -> Result<(SpecExpr, u32), Fail>
-        requires { seen true self.now.tokens.now (at - 1) ≢ k.Minus }
-        ensures { Gives view_spec self.now.tokens.now self.now.depth (pieces.Clause self.now.tokens.now self.now.depth) at result }
-    {
-        if self.depth > MAX_DEPTH {
-            return Err(self.too_deep(at));
-        }
-        parse_spec_expr(self.alloc, self.tokens, at, self.depth)
+        parse_expr(self.alloc, self.tokens, at, Level::Product, self.depth)
     }
 
     /// An expression behind a token of the kind.
     pub fn value_after(&self, at: u32, kind: Kind) -> Result<(Expr, u32), Fail>
-        requires { kind ≢ k.Minus }
+        requires { frees kind ≡ true }
         ensures { Gives view_expr self.now.tokens.now self.now.depth (pieces.After self.now.tokens.now kind (pieces.Value self.now.tokens.now self.now.depth)) at result }
     {
         let next = self.expect(at, kind)?;
@@ -109,7 +70,7 @@ impl<'a> Source<'a> {
 
     /// An expression that is evaluated for its effect (JLS 14.8).
     pub fn effect(&self, at: u32) -> Result<(Expr, u32), Fail>
-        requires { seen false self.now.tokens.now (at - 1) ≢ k.Minus }
+        requires { pieces.Fronts self.now.tokens.now at }
         ensures { Gives view_expr self.now.tokens.now self.now.depth (pieces.Effect self.now.tokens.now self.now.depth) at result }
     {
         let (value, next) = self.value(at)?;
@@ -119,20 +80,20 @@ impl<'a> Source<'a> {
         Err(Fail::Refused(self.refusal(at)))
     }
 
-    fn effects(&self, at: u32) -> Result<(Items<Expr>, u32), Fail>
-        requires { seen false self.now.tokens.now (at - 1) ≢ k.Minus }
-        ensures { Gives (map view_expr) self.now.tokens.now self.now.depth (pieces.Effects self.now.tokens.now self.now.depth) at result }
+    fn effects(&self, start: u32) -> Result<(Items<Expr>, u32), Fail>
+        requires { pieces.Fronts self.now.tokens.now start }
+        ensures { Gives (map view_expr) self.now.tokens.now self.now.depth (pieces.Effects self.now.tokens.now self.now.depth) start result }
     {
         let mut found = Items::new(self.alloc);
-        let (first, mut place) = self.effect(at)?;
+        let (first, mut at) = self.effect(start)?;
         found.push(first)?;
-        while self.sees(place, Kind::Comma) {
-            let next = self.expect(place, Kind::Comma)?;
+        while self.sees(at, Kind::Comma) {
+            let next = self.expect(at, Kind::Comma)?;
             let (value, behind) = self.effect(next)?;
             found.push(value)?;
-            place = behind;
+            at = behind;
         }
-        Ok((found, place))
+        Ok((found, at))
     }
 
     /// A declared variable (JLS 14.4.1).
@@ -149,19 +110,19 @@ impl<'a> Source<'a> {
         Ok((LocalDeclarator { name, initial }, next))
     }
 
-    fn declarators(&self, at: u32) -> Result<(Items<LocalDeclarator>, u32), Fail>
-        ensures { Gives (map view_declarator) self.now.tokens.now self.now.depth (pieces.Declarators self.now.tokens.now self.now.depth) at result }
+    fn declarators(&self, start: u32) -> Result<(Items<LocalDeclarator>, u32), Fail>
+        ensures { Gives (map view_declarator) self.now.tokens.now self.now.depth (pieces.Declarators self.now.tokens.now self.now.depth) start result }
     {
         let mut found = Items::new(self.alloc);
-        let (first, mut place) = self.declared(at)?;
+        let (first, mut at) = self.declared(start)?;
         found.push(first)?;
-        while self.sees(place, Kind::Comma) {
-            let next = self.expect(place, Kind::Comma)?;
+        while self.sees(at, Kind::Comma) {
+            let next = self.expect(at, Kind::Comma)?;
             let (declarator, behind) = self.declared(next)?;
             found.push(declarator)?;
-            place = behind;
+            at = behind;
         }
-        Ok((found, place))
+        Ok((found, at))
     }
 
     /// Variables of one type (JLS 14.4).
@@ -179,7 +140,7 @@ impl<'a> Source<'a> {
 
     /// An expression, unless a `;` stands there.
     pub fn optional(&self, at: u32) -> Result<(Option<Expr>, u32), Fail>
-        requires { seen false self.now.tokens.now (at - 1) ≢ k.Minus }
+        requires { pieces.Fronts self.now.tokens.now at }
         ensures { Gives (option_map view_expr) self.now.tokens.now self.now.depth (pieces.Optional self.now.tokens.now self.now.depth) at result }
     {
         if self.sees(at, Kind::Semicolon) {
@@ -196,16 +157,12 @@ impl<'a> Source<'a> {
         if at >= self.tokens.len() {
             return false;
         }
-        declares(
-            self.seen(false, at),
-            self.seen(false, at + 1),
-            self.seen(false, at + 2),
-        )
+        declares(self.seen(at), self.seen(at + 1), self.seen(at + 2))
     }
 
     /// What a `for` does first (JLS 14.14.1).
     pub fn init(&self, at: u32) -> Result<(ForInit, u32), Fail>
-        requires { seen false self.now.tokens.now (at - 1) ≢ k.Minus }
+        requires { pieces.Fronts self.now.tokens.now at }
         ensures { Gives view_init self.now.tokens.now self.now.depth (pieces.Init self.now.tokens.now self.now.depth) at result }
     {
         if self.sees(at, Kind::Semicolon) {
@@ -221,7 +178,7 @@ impl<'a> Source<'a> {
 
     /// What a `for` does after each turn (JLS 14.14.1).
     pub fn updates(&self, at: u32) -> Result<(Items<Expr>, u32), Fail>
-        requires { seen false self.now.tokens.now (at - 1) ≢ k.Minus }
+        requires { pieces.Fronts self.now.tokens.now at }
         ensures { Gives (map view_expr) self.now.tokens.now self.now.depth (pieces.Updates self.now.tokens.now self.now.depth) at result }
     {
         if self.sees(at, Kind::CloseParen) {
@@ -230,9 +187,13 @@ impl<'a> Source<'a> {
         self.effects(at)
     }
 
+    /// A string, which is a node as any other.
     fn string(&self, at: u32) -> Result<(Part, u32), Fail>
-        ensures { Gives view_part self.now.tokens.now self.now.depth (pieces.String self.now.tokens.now) at result }
+        ensures { Gives view_part self.now.tokens.now self.now.depth (pieces.String self.now.tokens.now self.now.depth) at result }
     {
+        if self.is_too_deep() {
+            return Err(self.too_deep(at));
+        }
         let next = self.expect(at, Kind::Text)?;
         let text = Items::from_slice(self.alloc, self.tokens.text(at))?;
         Ok((Part::Text(text), next))
@@ -240,7 +201,7 @@ impl<'a> Source<'a> {
 
     /// What is added to a string.
     fn term(&self, at: u32) -> Result<(Part, u32), Fail>
-        requires { seen false self.now.tokens.now (at - 1) ≢ k.Minus }
+        requires { pieces.Fronts self.now.tokens.now at }
         ensures { Gives view_part self.now.tokens.now self.now.depth (pieces.Term self.now.tokens.now self.now.depth) at result }
     {
         if self.sees(at, Kind::Text) {
@@ -252,24 +213,24 @@ impl<'a> Source<'a> {
     }
 
     /// A string, and what is added to it.
-    fn sum(&self, at: u32) -> Result<(Items<Part>, u32), Fail>
-        ensures { Gives (map view_part) self.now.tokens.now self.now.depth (pieces.Sum self.now.tokens.now self.now.depth) at result }
+    fn sum(&self, start: u32) -> Result<(Items<Part>, u32), Fail>
+        ensures { Gives (map view_part) self.now.tokens.now self.now.depth (pieces.Sum self.now.tokens.now self.now.depth) start result }
     {
         let mut found = Items::new(self.alloc);
-        let (first, mut place) = self.string(at)?;
+        let (first, mut at) = self.string(start)?;
         found.push(first)?;
-        while self.sees(place, Kind::Plus) {
-            let next = self.expect(place, Kind::Plus)?;
+        while self.sees(at, Kind::Plus) {
+            let next = self.expect(at, Kind::Plus)?;
             let (part, behind) = self.term(next)?;
             found.push(part)?;
-            place = behind;
+            at = behind;
         }
-        Ok((found, place))
+        Ok((found, at))
     }
 
     /// What stands between the brackets of a print.
     pub fn parts(&self, at: u32) -> Result<(Items<Part>, u32), Fail>
-        requires { seen false self.now.tokens.now (at - 1) ≢ k.Minus }
+        requires { pieces.Fronts self.now.tokens.now at }
         ensures { Gives (map view_part) self.now.tokens.now self.now.depth (pieces.Parts self.now.tokens.now self.now.depth) at result }
     {
         let mut found = Items::new(self.alloc);

@@ -35,7 +35,7 @@ fn block_told(alloc: Global, text: &[u8]) -> Result<Told, test::Fail> {
     }
 }
 
-static BLOCKS: [(&[u8], Told); 50] = [
+static BLOCKS: [(&[u8], Told); 66] = [
     (b"{}", Told::Block(0, 2)),
     (b"{ ; {} ; } x", Told::Block(3, 6)),
     (b"{ int x = 1, y; }", Told::Block(1, 9)),
@@ -92,6 +92,25 @@ static BLOCKS: [(&[u8], Told); 50] = [
         Told::Syntax(54),
     ),
     (b"{ System.out.print(1); }", Told::Block(1, 11)),
+    (b"{ System.out.print(\"a\"); }", Told::NotInProfile(13)),
+    (b"{ System.out.print(a, 1) }", Told::Syntax(25)),
+    (b"{ x = System.out.print(1, \"a\"); }", Told::Syntax(26)),
+    (b"{ x.super = 1; }", Told::NotInProfile(4)),
+    (b"{ x.y.goto(); }", Told::NotInProfile(6)),
+    (b"{ x. = 1; }", Told::Syntax(5)),
+    (b"{ x = p ? (q) r : s; }", Told::Syntax(14)),
+    (b"{ for (; r : s;) ; }", Told::Syntax(11)),
+    (b"{ do a(); r : while (b); }", Told::Syntax(10)),
+    (b"{ if (a) r : x = 1; }", Told::NotInProfile(9)),
+    (b"{ if (a) ; else r : x = 1; }", Told::NotInProfile(16)),
+    (
+        b"{ try { a(); } catch (E e) { ; r : ; } }",
+        Told::NotInProfile(31),
+    ),
+    (b"{ commit: r : ; }", Told::NotInProfile(10)),
+    (b"{ if (a) -2147483648; }", Told::Syntax(9)),
+    (b"{ while (a) -2147483648; }", Told::Syntax(12)),
+    (b"{ x = (a) -2147483648; }", Told::BigLiteral(11)),
     (b"{ assert x; }", Told::NotInProfile(2)),
     (b"{ //@ assert x ==> y;\n x = 1; }", Told::Block(2, 11)),
     (b"{ //@ ghost int x;\n }", Told::NotInProfile(6)),
@@ -134,14 +153,30 @@ fn repeated(
     Ok(text)
 }
 
-/// The deepest node is the empty statement, or the condition of the last `if`.
-static DEEP: [(&[u8], &[u8], u32, &[u8], bool); 6] = [
+/// The deepest node is the empty statement, the condition of the last `if`, or a part of a print.
+static DEEP: [(&[u8], &[u8], u32, &[u8], bool); 10] = [
     (b"{", b"while (a) ", 128, b"; }", false),
     (b"{", b"while (a) ", 129, b"; }", true),
     (b"{", b"{", 200, b"", true),
     (b"{", b"if (a) ; else ", 128, b"; }", false),
     (b"{", b"if (a) ; else ", 129, b"; }", true),
     (b"{", b";", 100_000, b"}", false),
+    (
+        b"{",
+        b"while (a) ",
+        127,
+        b"System.out.println(\"a\" + 1 + \"b\");}",
+        false,
+    ),
+    (b"{", b"while (a) ", 128, b"System.out.println();}", false),
+    (b"{", b"while (a) ", 128, b"System.out.println(1);}", true),
+    (
+        b"{",
+        b"while (a) ",
+        128,
+        b"System.out.println(\"a\");}",
+        true,
+    ),
 ];
 
 #[test]

@@ -1,4 +1,4 @@
-pub mod Places
+pub mod Past
 pub mod Told
 pub mod OfParts
 pub mod OfFields
@@ -6,5 +6,6 @@ pub mod OfSignatures
 pub mod Rows
 pub mod Below
 pub mod Ends
+pub mod OfBodies
 pub mod OfMembers
 pub mod OfUnits

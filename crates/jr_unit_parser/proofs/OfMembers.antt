@@ -12,11 +12,11 @@ use Rattle.jr_ast.specs.declared.unit.Field.{Field}
 use Rattle.jr_ast.specs.Clauses.{MethodClause, ClassClause}
 use Rattle.jr_ast.specs.Statements.{Stmts}
 use Rattle.jr_ast.specs.Units.{Method, Member, Empty, OfField, OfMethod, OfClause}
-use Rattle.jr_expr_parser.specs.Seen.{seen}
-use Rattle.jr_expr_parser.specs.Answers.{LeftOut}
+use Rattle.jr_reading.specs.Seen.{seen}
+use Rattle.jr_reading.specs.Limits.{nesting_limit}
+use Rattle.jr_reading.specs.LeftOut.{LeftOut}
 use Rattle.jr_jml_parser.specs.Answers as jml
 use Rattle.jr_jml_parser.specs.Grammar.{SpellsMethod, requires, ensures, when, locks, assignable, modifies, Modified, plain, visible, static, Declares, invariant, constraint, monitors_for, SpellsClass, modified, is_visibility}
-use Rattle.jr_stmt_parser.specs.Answers.{LeftOutAt}
 use Rattle.jr_stmt_parser.specs.Grammar.{Block, braces}
 use Rattle.jr_unit_parser.specs.declared.head.Signature.{Signature}
 use Rattle.jr_unit_parser.specs.declared.head.Declared.{Declared}
@@ -24,10 +24,14 @@ use Rattle.jr_unit_parser.specs.declared.head.Declared.TheVariants as declared
 use Rattle.jr_unit_parser.specs.Grammar as g
 use Rattle.jr_unit_parser.specs.Grammar.{Many, FieldAt, SignatureAt, MethodAt, MemberAt, modifier_of}
 use Rattle.jr_unit_parser.specs.Nesting.{ShallowClause, ShallowMember}
+use Rattle.jr_stmt_parser.specs.Answers.{LeftOutFrom}
+use Rattle.jr_unit_parser.specs.Begins.{OtherLabel}
 use Rattle.jr_unit_parser.specs.Finds.{Fails, Finds, AllOf, method_of}
 use Rattle.jr_unit_parser.specs.Plain.{IsPlain}
-use Rattle.jr_unit_parser.specs.Reading.{Outcome, same_kind, sees, one_modifier, declared_at, begins_method_clause, begins_class_clause, clause_begins, member_begins}
-use Rattle.jr_unit_parser.proofs.Told.{sees_yes, sees_is, sees_other, stands}
+use Rattle.jr_reading.specs.Outcomes.{Outcome}
+use Rattle.jr_reading.specs.Steps.{same_kind, sees}
+use Rattle.jr_unit_parser.specs.Steps.{one_modifier, declared_at, begins_method_clause, begins_class_clause, clause_begins, member_begins}
+use Rattle.jr_reading.proofs.Tokens.{sees_it, seen_is, sees_other, taken}
 use Rattle.jr_unit_parser.proofs.OfParts.{declares, opposite, no_modifier_of, no_modifier_in}
 use Rattle.jr_unit_parser.proofs.OfSignatures.{signature_read, declared_field_read, signature_begins, field_begins, signature_on, field_on}
 use Rattle.jr_unit_parser.proofs.Rows.{Rows, one_row}
@@ -35,14 +39,14 @@ use Rattle.jr_unit_parser.proofs.Below.{one_method_clause, one_class_clause, one
 
 -- ---- what the readers of clauses answer
 
-left_out_of : (ts : List Token) (i : ℕ) (s : Span) → LeftOut ts i s → LeftOutAt ts 0 s
+left_out_of : (ts : List Token) (i : ℕ) (s : Span) → LeftOut ts i s → LeftOutFrom ts (OtherLabel ts) 0 s
 left_out_of ts i s l = record { at = l.at; behind = omega arith; span = l.span; word = inl l.word }
 
-big_literal_of : (ts : List Token) (i : ℕ) (s : Span) → jml.BigLiteralAt ts i s → jml.BigLiteralAt ts 0 s
+big_literal_of : (ts : List Token) (i : ℕ) (s : Span) → jml.BigInClause ts i s → jml.BigInClause ts 0 s
 big_literal_of ts i s b = record { at = b.at; behind = omega arith; span = b.span; literal = b.literal; number = b.number; before = b.before }
 
 module _ {A C : Type 0} (ts : List Token) (view : C → A) (One : ℕ → A → ℕ → Type 0) (nests : A → ℕ) where
-  pub clause_fails : (i : ℕ) (e : Fail) → jml.Fails (One i) nests ts i 0 e → Fails ts One (λ a. nests a ≤ 128) i e
+  pub clause_fails : (i : ℕ) (e : Fail) → jml.Fails (One i) nests ts i 0 e → Fails ts One (λ a. nests a ≤ nesting_limit) i e
   clause_fails i Memory f = tt
   clause_fails i (Refused (refusal.Syntax s)) f = record { caused = tt; nothing = λ x j o c. f x j o }
   clause_fails i (Refused (refusal.NotInProfile s)) f = record { caused = left_out_of ts i s f.1; nothing = λ x j o c. f.0 x j o }
@@ -50,7 +54,7 @@ module _ {A C : Type 0} (ts : List Token) (view : C → A) (One : ℕ → A → 
   clause_fails i (Refused (refusal.TooDeep s)) f = record { caused = omega (arith, f.1); nothing = λ x j o c. f.0 x j o (omega (arith, c)) }
   clause_fails i (Refused _) f = absurd f
 
-  pub clause_finds : (i : ℕ) (r : Result (C × ℕ) Fail) → jml.Answers view (One i) nests ts i 0 r → Finds ts view One (λ a. nests a ≤ 128) i r
+  pub clause_finds : (i : ℕ) (r : Result (C × ℕ) Fail) → jml.Answers view (One i) nests ts i 0 r → Finds ts view One (λ a. nests a ≤ nesting_limit) i r
   clause_finds i (Ok r) f = record { stands = f.stands; shallow = omega (arith, f.shallow) }
   clause_finds i (Err e) f = clause_fails i e f
 
@@ -76,13 +80,13 @@ module _ (ts : List Token) where
   no_both : (b : Bool) → b ≡ true → b ≡ false → ⊥
   no_both b e f = let both = sym e ∙ f in absurd cc
 
-  starts_no : (i : ℕ) (a : Kind) → Starts i → modifier_of false a ≡ None → same_kind a k.At ≡ false → same_kind a k.End ≡ false → declares a ≡ false → sees ts i a ≡ false
-  starts_no i a starts none at end not_declares = go (sees ts i a) refl
+  starts_no : (i : ℕ) (a : Kind) → Starts i → modifier_of false a ≡ None → same_kind a k.At ≡ false → same_kind a k.End ≡ false → declares a ≡ false → sees false ts i a ≡ false
+  starts_no i a starts none at end not_declares = go (sees false ts i a) refl
     where
-      go : (b : Bool) → sees ts i a ≡ b → b ≡ false
+      go : (b : Bool) → sees false ts i a ≡ b → b ≡ false
       go false e = refl
       go true e =
-          let is = sees_is ts i a e in
+          let is = seen_is false ts i a e in
           absurd (no_both (declares (seen false ts i)) (starts (no_modifier_of ts i a is none at end)) (ap declares is ∙ not_declares))
 
   annotated_not : (i : ℕ) (a : Kind) → Starts i → seen true ts i ≡ a → modifier_of true a ≡ None → same_kind a k.End ≡ false → ⊥
@@ -167,8 +171,8 @@ module _ (ts : List Token) where
   not_of_both _ e = absurd cc
 
   -- a token of an annotation is none of code
-  annotated_no : (i : ℕ) (a : Kind) → same_kind (seen true ts i) k.End ≡ false → same_kind k.End a ≡ false → sees ts i a ≡ false
-  annotated_no i a end other = sees_other ts i k.End a (opposite ts i (seen true ts i) refl end) other
+  annotated_no : (i : ℕ) (a : Kind) → same_kind (seen true ts i) k.End ≡ false → same_kind k.End a ≡ false → sees false ts i a ≡ false
+  annotated_no i a end other = sees_other false ts i k.End a (opposite ts i (seen true ts i) refl end) other
 
   -- ---- fields and methods
 
@@ -182,7 +186,7 @@ module _ (ts : List Token) where
   pub clauses_all : {i a j : ℕ} {cs : List MethodClause} {s : Signature} → Many (SpellsMethod ts) i cs a → SignatureAt ts a s j → AllOf (SpellsMethod ts) (clause_begins ts) i cs a
   clauses_all {a = a} many sig = record { many = many; ended = no_clause_begins a (signature_begins ts sig) }
 
-  method_first : (a : Kind) (i : ℕ) {m j : ℕ} {cs : List MethodClause} {s : Signature} → Many (SpellsMethod ts) i cs m → SignatureAt ts m s j → modifier_of false a ≡ None → same_kind a k.At ≡ false → same_kind a k.End ≡ false → declares a ≡ false → same_kind k.End a ≡ false → sees ts i a ≡ false
+  method_first : (a : Kind) (i : ℕ) {m j : ℕ} {cs : List MethodClause} {s : Signature} → Many (SpellsMethod ts) i cs m → SignatureAt ts m s j → modifier_of false a ≡ None → same_kind a k.At ≡ false → same_kind a k.End ≡ false → declares a ≡ false → same_kind k.End a ≡ false → sees false ts i a ≡ false
   unfolding clause_begins
   method_first a i g.none sig none at end not_declares other = starts_no i a (signature_begins ts sig) none at end not_declares
   method_first a i (g.one_more {j = n} {x = c} one rest) sig none at end not_declares other = annotated_no i a (method_word (seen true ts i) (clause_begun i n c one)) other
@@ -203,9 +207,9 @@ module _ (ts : List Token) where
   unfolding same_kind
   method_plain {i = i} (g.method cs sig block) = record { not_empty = method_first k.Semicolon i cs sig refl refl refl refl refl; no_clause = method_no_class i cs sig }
 
-  no_brace : {i j : ℕ} {x : Member} → MemberAt ts i x j → sees ts i k.CloseBrace ≡ false
+  no_brace : {i j : ℕ} {x : Member} → MemberAt ts i x j → sees false ts i k.CloseBrace ≡ false
   unfolding same_kind
-  no_brace (g.empty {i = i} h) = sees_other ts i k.Semicolon k.CloseBrace h refl
+  no_brace (g.empty {i = i} h) = sees_other false ts i k.Semicolon k.CloseBrace h refl
   no_brace {i = i} (g.field f) = starts_no i k.CloseBrace (field_starts f) refl refl refl refl
   no_brace {i = i} (g.method (g.method cs sig block)) = method_first k.CloseBrace i cs sig refl refl refl refl refl
   no_brace {i = i} (g.clause c) = annotated_no i k.CloseBrace (class_word (seen true ts i) (class_clause_begun c)) refl
@@ -220,7 +224,7 @@ module _ (ts : List Token) where
 
   pub member_on : (i j : ℕ) (x : Member) → MemberAt ts i x j → (i < j) × (j ≤ length ts)
   unfolding same_kind
-  member_on i j x (g.empty h) = (omega arith, omega (arith, stands false ts i k.Semicolon h refl))
+  member_on i j x (g.empty h) = (omega arith, omega (arith, taken false ts i k.Semicolon h refl))
   member_on i j x (g.field f) = field_on ts f
   member_on i j x (g.method (g.method {b = b} {body = body} cs sig block)) = (omega (arith, clauses_on cs, signature_on ts sig, block_on ts b j body block), (block_on ts b j body block).1)
   member_on i j x (g.clause {c = c} s) = class_clause_on ts i j c s
@@ -242,7 +246,7 @@ module _ (ts : List Token) where
       (a_method (subst (λ i. declared_at ts i ≡ Ok (declared.Routine s, b)) (sym same.1) (signature_read ts sig (block_open block))) block)
 
   pub behind : (first at j : ℕ) (cs : List MethodClause) (x : Member) → IsPlain ts first → AllOf (SpellsMethod ts) (clause_begins ts) first cs at → MemberAt ts first x j → Behind first at cs x j
-  behind first at j cs x here all (g.empty h) = absurd (no_both (sees ts first k.Semicolon) (sees_yes ts first k.Semicolon h) here.not_empty)
+  behind first at j cs x here all (g.empty h) = absurd (no_both (sees false ts first k.Semicolon) (sees_it false ts first k.Semicolon h) here.not_empty)
   behind first at j cs x here all (g.field {f = f} fa) = behind_field first at j cs f all fa
   behind first at j cs x here all (g.method (g.method {a = a} {b = b} {cs = ds} {s = s} {body = body} many sig block)) = behind_method first at a b j cs ds s body all many sig block
   behind first at j cs x here all (g.clause c) = absurd (no_both (begins_class_clause (seen true ts first)) (class_clause_begun c) here.no_clause)
@@ -252,7 +256,7 @@ module _ (ts : List Token) where
     before : {at : ℕ} {cs : List MethodClause} → AllOf (SpellsMethod ts) (clause_begins ts) first cs at → (ShallowMember x → All ShallowClause cs) → Before first x
 
   pub clauses_before : (first j : ℕ) (x : Member) → IsPlain ts first → MemberAt ts first x j → Before first x
-  clauses_before first j x here (g.empty h) = absurd (no_both (sees ts first k.Semicolon) (sees_yes ts first k.Semicolon h) here.not_empty)
+  clauses_before first j x here (g.empty h) = absurd (no_both (sees false ts first k.Semicolon) (sees_it false ts first k.Semicolon h) here.not_empty)
   clauses_before first j x here (g.field fa) = before (record { many = g.none; ended = no_clause_begins first (field_starts fa) }) (λ s. λ k d below. absurd (omega arith))
   clauses_before first j x here (g.method (g.method many sig block)) = before (clauses_all many sig) (λ s. s.0)
   clauses_before first j x here (g.clause c) = absurd (no_both (begins_class_clause (seen true ts first)) (class_clause_begun c) here.no_clause)
@@ -263,12 +267,12 @@ module _ (ts : List Token) where
 
   pub clause_member : (i j : ℕ) (x : Member) → begins_class_clause (seen true ts i) ≡ true → MemberAt ts i x j → IsClause i x j
   unfolding same_kind
-  clause_member i j x b (g.empty h) = absurd (no_both (sees ts i k.Semicolon) (sees_yes ts i k.Semicolon h) (annotated_no i k.Semicolon (class_word (seen true ts i) b) refl))
+  clause_member i j x b (g.empty h) = absurd (no_both (sees false ts i k.Semicolon) (sees_it false ts i k.Semicolon h) (annotated_no i k.Semicolon (class_word (seen true ts i) b) refl))
   clause_member i j x b (g.field f) = absurd (no_both (begins_class_clause (seen true ts i)) b (field_plain f).no_clause)
   clause_member i j x b (g.method m) = absurd (no_both (begins_class_clause (seen true ts i)) b (method_plain m).no_clause)
   clause_member i j x b (g.clause c) = is_clause c
 
-  -- ---- at most one member stands at a place
+  -- ---- at most one member stands at an index
 
   declared_once : {b c : ℕ} {d e : Declared} (o : Outcome Declared) → o ≡ Ok (d, b) → o ≡ Ok (e, c) → (d ≡ e) × (b ≡ c)
   declared_once {b = b} {c = c} {d = d} {e = e} o f h =
@@ -302,9 +306,9 @@ module _ (ts : List Token) where
   empty_member : (i m : ℕ) (y : Member) → seen false ts i ≡ k.Semicolon → MemberAt ts i y m → (Empty ≡ y) × (i + 1 ≡ m)
   unfolding same_kind
   empty_member i m y h (g.empty e) = (refl, refl)
-  empty_member i m y h (g.field f) = absurd (no_both (sees ts i k.Semicolon) (sees_yes ts i k.Semicolon h) (field_plain f).not_empty)
-  empty_member i m y h (g.method a) = absurd (no_both (sees ts i k.Semicolon) (sees_yes ts i k.Semicolon h) (method_plain a).not_empty)
-  empty_member i m y h (g.clause c) = absurd (no_both (sees ts i k.Semicolon) (sees_yes ts i k.Semicolon h) (annotated_no i k.Semicolon (class_word (seen true ts i) (class_clause_begun c)) refl))
+  empty_member i m y h (g.field f) = absurd (no_both (sees false ts i k.Semicolon) (sees_it false ts i k.Semicolon h) (field_plain f).not_empty)
+  empty_member i m y h (g.method a) = absurd (no_both (sees false ts i k.Semicolon) (sees_it false ts i k.Semicolon h) (method_plain a).not_empty)
+  empty_member i m y h (g.clause c) = absurd (no_both (sees false ts i k.Semicolon) (sees_it false ts i k.Semicolon h) (annotated_no i k.Semicolon (class_word (seen true ts i) (class_clause_begun c)) refl))
 
   one_member : (i j m : ℕ) (x y : Member) → MemberAt ts i x j → MemberAt ts i y m → (x ≡ y) × (j ≡ m)
   one_member i j m x y (g.empty h) b = empty_member i m y h b

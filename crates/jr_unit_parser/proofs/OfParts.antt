@@ -6,20 +6,25 @@ use Rattle.jr_lexer.specs.declared.kind.Kind.TheVariants as k
 use Rattle.jr_lexer.specs.Token.{Token}
 use Rattle.jr_lexer.specs.Reading.{kind_at, jml_at}
 use Rattle.jr_ast.specs.declared.name.Name.{Name}
-use Rattle.jr_ast.specs.declared.name.ElementType.{ElementType}
 use Rattle.jr_ast.specs.declared.name.TypeName.{TypeName}
-use Rattle.jr_ast.specs.declared.name.TypeName.TheVariants as types
 use Rattle.jr_ast.specs.declared.unit.Modifier.{Modifier}
 use Rattle.jr_ast.specs.declared.unit.ModifierKind.{ModifierKind}
 use Rattle.jr_ast.specs.declared.unit.ModifierKind.TheVariants as modifier
-use Rattle.jr_expr_parser.specs.Seen.{seen, seen_as, name_at}
-use Rattle.jr_expr_parser.specs.Operators.{element_of}
-use Rattle.jr_stmt_parser.specs.Grammar.{TypeOf, single, array}
+use Rattle.jr_reading.specs.Seen.{seen, seen_as, name_at}
+use Rattle.jr_reading.specs.Types.{TypeOf}
 use Rattle.jr_unit_parser.specs.Grammar as g
-use Rattle.jr_unit_parser.specs.Grammar.{Many, Listed, NameAt, Dotted, Imports, ModifierAt, Throws, is_part, begins_import, modifier_of, modifier_at}
-use Rattle.jr_unit_parser.specs.Reading.{◌>>=◌, one_or, same_kind, refusal_at, sees, expect, dotted, import_at, imports, mark, one_modifier, modifiers, is_array, element, type_name, names, throws}
-use Rattle.jr_unit_parser.proofs.Places.{no_word_behind}
-use Rattle.jr_unit_parser.proofs.Told.{Told, told_then, told_to, told_if, told_option, Right, right_is, sees_yes, sees_is, sees_other, expected, seen_is, stands, below, caused_at, told_expect, none}
+use Rattle.jr_reading.specs.Listed.{Listed, last, more}
+use Rattle.jr_unit_parser.specs.Grammar.{Many, NameAt, Dotted, Imports, ModifierAt, Throws, is_part, begins_import, modifier_of, modifier_at}
+use Rattle.jr_reading.specs.Outcomes.{◌>>=◌, one_or}
+use Rattle.jr_reading.specs.Steps.{same_kind, refusal_at, sees, expect}
+use Rattle.jr_unit_parser.specs.Steps.{dotted, import_at, imports, mark, one_modifier, modifiers, names, throws}
+use Rattle.jr_unit_parser.proofs.Past.{no_word_behind}
+use Rattle.jr_reading.proofs.Tokens.{sees_it, seen_is, sees_other, expected, kind_seen, taken}
+use Rattle.jr_reading.proofs.TypeNames.{begins_type}
+use Rattle.jr_reading.proofs.TypeNames as types
+use Rattle.jr_reading.proofs.Told.{told_then, told_to, told_if, told_option}
+use Rattle.jr_unit_parser.specs.Finds.{Caused}
+use Rattle.jr_unit_parser.proofs.Told.{Told, Right, right_is, below, caused_at, told_expect}
 
 -- the words that stand behind modifiers, or begin a type
 abbrev pub declares : Kind → Bool
@@ -41,12 +46,12 @@ plain k.Void e = (refl, refl, refl)
 plain k.Class e = (refl, refl, refl)
 plain _ e = absurd cc
 
-begins_element : (a : Kind) (x : Name) (t : ElementType) → element_of a x ≡ Some t → declares a ≡ true
-begins_element k.Int x t e = refl
-begins_element k.Long x t e = refl
-begins_element k.Boolean x t e = refl
-begins_element k.Name x t e = refl
-begins_element _ x t e = absurd cc
+type_declares : (a : Kind) → begins_type a ≡ true → declares a ≡ true
+type_declares k.Int e = refl
+type_declares k.Long e = refl
+type_declares k.Boolean e = refl
+type_declares k.Name e = refl
+type_declares _ e = absurd cc
 
 module _ (ts : List Token) where
   -- ---- packages and imports
@@ -55,26 +60,26 @@ module _ (ts : List Token) where
   unfolding dotted
   dotted_told zero i = g.no_part
   dotted_told (suc n) i =
-      told_if ts (λ j. Dotted ts i j) (sees ts i k.Dot) (cond (is_part (seen false ts (i + 1))) (dotted ts n (i + 2)) (Err (refusal_at ts (i + 1)))) (Ok i)
-      (λ dot. told_if ts (λ j. Dotted ts i j) (is_part (seen false ts (i + 1))) (dotted ts n (i + 2)) (Err (refusal_at ts (i + 1)))
-      (λ p. told_to ts (λ j. Dotted ts (i + 2) j) (λ j. Dotted ts i j) (dotted ts n (i + 2)) (dotted_told n (i + 2)) (λ j d. g.part (sees_is ts i k.Dot dot) p d))
+      told_if (Caused ts) (λ j. Dotted ts i j) (sees false ts i k.Dot) (cond (is_part (seen false ts (i + 1))) (dotted ts n (i + 2)) (Err (refusal_at ts (i + 1)))) (Ok i)
+      (λ dot. told_if (Caused ts) (λ j. Dotted ts i j) (is_part (seen false ts (i + 1))) (dotted ts n (i + 2)) (Err (refusal_at ts (i + 1)))
+      (λ p. told_to (Caused ts) (λ j. Dotted ts (i + 2) j) (λ j. Dotted ts i j) (dotted ts n (i + 2)) (λ j d. g.part (seen_is false ts i k.Dot dot) p d) (dotted_told n (i + 2)))
       (λ p. caused_at ts (i + 1)))
       (λ e. g.no_part)
 
   import_told : (i : ℕ) → begins_import (seen false ts i) ≡ true → Told ts (λ j. (m : ℕ) → Imports ts j m → Imports ts i m) (import_at ts i)
   unfolding import_at
   import_told i b =
-      told_then ts (λ u. seen false ts (i + 1) ≡ k.Name) (λ j. (m : ℕ) → Imports ts j m → Imports ts i m) (expect ts (i + 1) k.Name) (λ u. dotted ts (length ts) (i + 2) >>= λ j. expect ts j k.Semicolon >>= λ u. Ok (j + 1)) (told_expect ts (i + 1) k.Name) (λ u name.
-      told_then ts (λ j. Dotted ts (i + 2) j) (λ j. (m : ℕ) → Imports ts j m → Imports ts i m) (dotted ts (length ts) (i + 2)) (λ j. expect ts j k.Semicolon >>= λ u. Ok (j + 1)) (dotted_told (length ts) (i + 2)) (λ j d.
-      told_then ts (λ u. seen false ts j ≡ k.Semicolon) (λ j. (m : ℕ) → Imports ts j m → Imports ts i m) (expect ts j k.Semicolon) (λ u. Ok (j + 1)) (told_expect ts j k.Semicolon) (λ u end. λ m rest. g.import b name d end rest)))
+      told_then (Caused ts) (λ u. seen false ts (i + 1) ≡ k.Name) (λ j. (m : ℕ) → Imports ts j m → Imports ts i m) (expect false ts (i + 1) k.Name) (λ u. dotted ts (length ts) (i + 2) >>= λ j. expect false ts j k.Semicolon >>= λ u. Ok (j + 1)) (told_expect ts (i + 1) k.Name) (λ u name.
+      told_then (Caused ts) (λ j. Dotted ts (i + 2) j) (λ j. (m : ℕ) → Imports ts j m → Imports ts i m) (dotted ts (length ts) (i + 2)) (λ j. expect false ts j k.Semicolon >>= λ u. Ok (j + 1)) (dotted_told (length ts) (i + 2)) (λ j d.
+      told_then (Caused ts) (λ u. seen false ts j ≡ k.Semicolon) (λ j. (m : ℕ) → Imports ts j m → Imports ts i m) (expect false ts j k.Semicolon) (λ u. Ok (j + 1)) (told_expect ts j k.Semicolon) (λ u end. λ m rest. g.import b name d end rest)))
 
   pub imports_told : (n i : ℕ) → Told ts (λ j. Imports ts i j) (imports ts n i)
   unfolding imports
   imports_told zero i = g.no_import
   imports_told (suc n) i =
-      told_if ts (λ j. Imports ts i j) (begins_import (seen false ts i)) (import_at ts i >>= λ j. imports ts n j) (Ok i)
-      (λ b. told_then ts (λ j. (m : ℕ) → Imports ts j m → Imports ts i m) (λ j. Imports ts i j) (import_at ts i) (λ j. imports ts n j) (import_told i b)
-      (λ j on. told_to ts (λ m. Imports ts j m) (λ m. Imports ts i m) (imports ts n j) (imports_told n j) (λ m rest. on m rest)))
+      told_if (Caused ts) (λ j. Imports ts i j) (begins_import (seen false ts i)) (import_at ts i >>= λ j. imports ts n j) (Ok i)
+      (λ b. told_then (Caused ts) (λ j. (m : ℕ) → Imports ts j m → Imports ts i m) (λ j. Imports ts i j) (import_at ts i) (λ j. imports ts n j) (import_told i b)
+      (λ j on. told_to (Caused ts) (λ m. Imports ts j m) (λ m. Imports ts i m) (imports ts n j) (λ m rest. on m rest) (imports_told n j)))
       (λ e. g.no_import)
 
   -- ---- modifiers
@@ -87,10 +92,10 @@ module _ (ts : List Token) where
 
   mark_right : (i : ℕ) → Right (OneModifier i) (mark ts i)
   unfolding mark
-  mark_right i = go (sees ts i k.At) (sees ts (i + 1) k.Name) refl refl
+  mark_right i = go (sees false ts i k.At) (sees false ts (i + 1) k.Name) refl refl
     where
-      go : (a b : Bool) → sees ts i k.At ≡ a → sees ts (i + 1) k.Name ≡ b → Right (OneModifier i) (cond a (cond b (Some (modifier_at ts i modifier.Mark, i + 2)) None) None)
-      go true true e f = g.mark (sees_is ts i k.At e) (sees_is ts (i + 1) k.Name f)
+      go : (a b : Bool) → sees false ts i k.At ≡ a → sees false ts (i + 1) k.Name ≡ b → Right (OneModifier i) (cond a (cond b (Some (modifier_at ts i modifier.Mark, i + 2)) None) None)
+      go true true e f = g.mark (seen_is false ts i k.At e) (seen_is false ts (i + 1) k.Name f)
       go true false e f = tt
       go false b e f = tt
 
@@ -109,56 +114,35 @@ module _ (ts : List Token) where
   unfolding modifiers
   modifiers_behind zero found i = ([], sym (append-nil found), g.none)
   modifiers_behind (suc n) found i =
-      told_option ts (Behind found i) (one_modifier ts i) (Ok (found, i)) (λ m. modifiers ts n (found ++ m.0 ∷ []) m.1)
+      told_option (Caused ts) (Behind found i) (one_modifier ts i) (Ok (found, i)) (λ m. modifiers ts n (found ++ m.0 ∷ []) m.1)
       (λ e. ([], sym (append-nil found), g.none))
-      (λ m e. told_to ts (Behind (found ++ m.0 ∷ []) m.1) (Behind found i) (modifiers ts n (found ++ m.0 ∷ []) m.1) (modifiers_behind n (found ++ m.0 ∷ []) m.1)
-      (λ r b. (m.0 ∷ b.0, b.1 ∙ append_assoc found (m.0 ∷ []) b.0, g.one_more (right_is (OneModifier i) (one_modifier ts i) m (modifier_right i) e) b.2)))
+      (λ m e. told_to (Caused ts) (Behind (found ++ m.0 ∷ []) m.1) (Behind found i) (modifiers ts n (found ++ m.0 ∷ []) m.1) (λ r b. (m.0 ∷ b.0, b.1 ∙ append_assoc found (m.0 ∷ []) b.0, g.one_more (right_is (OneModifier i) (one_modifier ts i) m (modifier_right i) e) b.2))
+      (modifiers_behind n (found ++ m.0 ∷ []) m.1))
 
   pub modifiers_told : (i : ℕ) → Told ts (AllModifiers i) (modifiers ts (length ts) [] i)
-  modifiers_told i = told_to ts (Behind [] i) (AllModifiers i) (modifiers ts (length ts) [] i) (modifiers_behind (length ts) [] i)
-      (λ r b. subst (λ ms. Many (ModifierAt ts) i ms r.1) (sym b.1) b.2)
-
-  -- ---- types
+  modifiers_told i = told_to (Caused ts) (Behind [] i) (AllModifiers i) (modifiers ts (length ts) [] i) (λ r b. subst (λ ms. Many (ModifierAt ts) i ms r.1) (sym b.1) b.2)
+      (modifiers_behind (length ts) [] i)
 
   abbrev pub OneType : ℕ → TypeName × ℕ → Type 0
   OneType i r = TypeOf ts i r.0 r.1
 
-  element_told : (i : ℕ) → Told ts (λ t. element_of (seen false ts i) (name_at ts i) ≡ Some t) (element ts i)
-  unfolding element
-  element_told i = told_option ts (λ t. element_of (seen false ts i) (name_at ts i) ≡ Some t) (element_of (seen false ts i) (name_at ts i)) (Err (refusal_at ts i)) Ok (λ e. caused_at ts i) (λ t e. e)
-
-  array_is : (i : ℕ) → is_array ts i ≡ true → (seen false ts (i + 1) ≡ k.OpenBracket) × (seen false ts (i + 2) ≡ k.CloseBracket)
-  unfolding is_array
-  array_is i e = go (sees ts (i + 1) k.OpenBracket) (sees ts (i + 2) k.CloseBracket) refl refl e
-    where
-      go : (a b : Bool) → sees ts (i + 1) k.OpenBracket ≡ a → sees ts (i + 2) k.CloseBracket ≡ b → cond a b false ≡ true → (seen false ts (i + 1) ≡ k.OpenBracket) × (seen false ts (i + 2) ≡ k.CloseBracket)
-      go true true e f h = (sees_is ts (i + 1) k.OpenBracket e, sees_is ts (i + 2) k.CloseBracket f)
-      go true false e f h = absurd cc
-      go false b e f h = absurd cc
-
-  pub type_told : (i : ℕ) → Told ts (OneType i) (type_name ts i)
-  unfolding type_name
-  type_told i =
-      told_then ts (λ t. element_of (seen false ts i) (name_at ts i) ≡ Some t) (OneType i) (element ts i) (λ t. cond (is_array ts i) (Ok (types.ArrayOf t, i + 3)) (Ok (types.Single t, i + 1))) (element_told i) (λ t e.
-      told_if ts (OneType i) (is_array ts i) (Ok (types.ArrayOf t, i + 3)) (Ok (types.Single t, i + 1)) (λ a. array e (array_is i a).0 (array_is i a).1) (λ a. single e))
-
   -- ---- what a method throws
 
-  names_told : (n i : ℕ) → Told ts (λ j. (xs : List Name) × Listed ts (NameAt ts) i xs j) (names ts n i)
+  names_told : (n i : ℕ) → Told ts (λ j. (xs : List Name) × Listed false ts (NameAt ts) i xs j) (names ts n i)
   unfolding names
   names_told zero i = caused_at ts i
   names_told (suc n) i =
-      told_then ts (λ u. seen false ts i ≡ k.Name) (λ j. (xs : List Name) × Listed ts (NameAt ts) i xs j) (expect ts i k.Name) (λ u. cond (sees ts (i + 1) k.Comma) (names ts n (i + 1 + 1)) (Ok (i + 1))) (told_expect ts i k.Name) (λ u name.
-      told_if ts (λ j. (xs : List Name) × Listed ts (NameAt ts) i xs j) (sees ts (i + 1) k.Comma) (names ts n (i + 1 + 1)) (Ok (i + 1))
-      (λ comma. told_to ts (λ j. (xs : List Name) × Listed ts (NameAt ts) (i + 1 + 1) xs j) (λ j. (xs : List Name) × Listed ts (NameAt ts) i xs j) (names ts n (i + 1 + 1)) (names_told n (i + 1 + 1))
-      (λ j rest. (name_at ts i ∷ rest.0, g.one_more (g.name name) (sees_is ts (i + 1) k.Comma comma) rest.1)))
-      (λ comma. (name_at ts i ∷ [], g.last (g.name name))))
+      told_then (Caused ts) (λ u. seen false ts i ≡ k.Name) (λ j. (xs : List Name) × Listed false ts (NameAt ts) i xs j) (expect false ts i k.Name) (λ u. cond (sees false ts (i + 1) k.Comma) (names ts n (i + 1 + 1)) (Ok (i + 1))) (told_expect ts i k.Name) (λ u name.
+      told_if (Caused ts) (λ j. (xs : List Name) × Listed false ts (NameAt ts) i xs j) (sees false ts (i + 1) k.Comma) (names ts n (i + 1 + 1)) (Ok (i + 1))
+      (λ comma. told_to (Caused ts) (λ j. (xs : List Name) × Listed false ts (NameAt ts) (i + 1 + 1) xs j) (λ j. (xs : List Name) × Listed false ts (NameAt ts) i xs j) (names ts n (i + 1 + 1)) (λ j rest. (name_at ts i ∷ rest.0, more (g.name name) (seen_is false ts (i + 1) k.Comma comma) rest.1))
+      (names_told n (i + 1 + 1)))
+      (λ comma. (name_at ts i ∷ [], last (g.name name))))
 
   pub throws_told : (i : ℕ) → Told ts (λ j. Throws ts i j) (throws ts i)
   unfolding throws
   throws_told i =
-      told_if ts (λ j. Throws ts i j) (sees ts i k.Throws) (names ts (length ts) (i + 1)) (Ok i)
-      (λ e. told_to ts (λ j. (xs : List Name) × Listed ts (NameAt ts) (i + 1) xs j) (λ j. Throws ts i j) (names ts (length ts) (i + 1)) (names_told (length ts) (i + 1)) (λ j xs. g.throws (sees_is ts i k.Throws e) xs.1))
+      told_if (Caused ts) (λ j. Throws ts i j) (sees false ts i k.Throws) (names ts (length ts) (i + 1)) (Ok i)
+      (λ e. told_to (Caused ts) (λ j. (xs : List Name) × Listed false ts (NameAt ts) (i + 1) xs j) (λ j. Throws ts i j) (names ts (length ts) (i + 1)) (λ j xs. g.throws (seen_is false ts i k.Throws e) xs.1) (names_told (length ts) (i + 1)))
       (λ e. g.nothing)
 
   -- ---- what is spelled is read
@@ -167,19 +151,19 @@ module _ (ts : List Token) where
   dotted_on g.no_part = omega arith
   dotted_on (g.part h p d) = omega (arith, dotted_on d)
 
-  other : (i : ℕ) (a b : Kind) → seen false ts i ≡ a → same_kind a b ≡ false → sees ts i b ≡ false
-  other i a b e f = sees_other ts i a b e f
+  other : (i : ℕ) (a b : Kind) → seen false ts i ≡ a → same_kind a b ≡ false → sees false ts i b ≡ false
+  other i a b e f = sees_other false ts i a b e f
 
-  dotted_read : (n : ℕ) {i j : ℕ} → length ts ≤ i + n → Dotted ts i j → sees ts j k.Dot ≡ false → dotted ts n i ≡ Ok j
+  dotted_read : (n : ℕ) {i j : ℕ} → length ts ≤ i + n → Dotted ts i j → sees false ts j k.Dot ≡ false → dotted ts n i ≡ Ok j
   unfolding dotted same_kind
   dotted_read zero fuel g.no_part stop = refl
   dotted_read (suc n) fuel g.no_part stop = rw stop
-  dotted_read zero fuel (g.part {i = i} h p d) stop = absurd (omega (arith, stands false ts i k.Dot h refl))
-  dotted_read (suc n) fuel (g.part {i = i} h p d) stop = rw (sees_yes ts i k.Dot h, p) (dotted_read n (omega arith) d stop)
+  dotted_read zero fuel (g.part {i = i} h p d) stop = absurd (omega (arith, taken false ts i k.Dot h refl))
+  dotted_read (suc n) fuel (g.part {i = i} h p d) stop = rw (sees_it false ts i k.Dot h, p) (dotted_read n (omega arith) d stop)
 
   import_read : (i j : ℕ) → seen false ts (i + 1) ≡ k.Name → Dotted ts (i + 2) j → seen false ts j ≡ k.Semicolon → import_at ts i ≡ Ok (j + 1)
   unfolding import_at same_kind
-  import_read i j name d end = rw (expected ts (i + 1) k.Name name, dotted_read (length ts) (omega arith) d (other j k.Semicolon k.Dot end refl), expected ts j k.Semicolon end)
+  import_read i j name d end = rw (expected false ts (i + 1) k.Name name, dotted_read (length ts) (omega arith) d (other j k.Semicolon k.Dot end refl), expected false ts j k.Semicolon end)
 
   pub imports_on : {i j : ℕ} → Imports ts i j → i ≤ j
   imports_on g.no_import = omega arith
@@ -194,21 +178,21 @@ module _ (ts : List Token) where
   pub imports_within : {i j : ℕ} → Imports ts i j → i ≤ length ts → j ≤ length ts
   unfolding same_kind
   imports_within g.no_import within = within
-  imports_within (g.import {j = j} b name d end rest) within = imports_within rest (omega (arith, stands false ts j k.Semicolon end refl))
+  imports_within (g.import {j = j} b name d end rest) within = imports_within rest (omega (arith, taken false ts j k.Semicolon end refl))
 
   pub imports_read : (n : ℕ) {i j : ℕ} → length ts ≤ i + n → Imports ts i j → begins_import (seen false ts j) ≡ false → imports ts n i ≡ Ok j
   unfolding imports
   imports_read zero fuel g.no_import stop = refl
   imports_read (suc n) fuel g.no_import stop = rw stop
-  imports_read zero fuel (g.import {i = i} b name d end rest) stop = absurd (omega (arith, stands false ts i (seen false ts i) refl (begins_not (seen false ts i) b)))
+  imports_read zero fuel (g.import {i = i} b name d end rest) stop = absurd (omega (arith, taken false ts i (seen false ts i) refl (begins_not (seen false ts i) b)))
   imports_read (suc n) fuel (g.import {i = i} {j = j} b name d end rest) stop = rw (b, import_read i j name d end) (imports_read n (omega (arith, dotted_on d)) rest stop)
 
   mark_read : (i : ℕ) → seen false ts i ≡ k.At → seen false ts (i + 1) ≡ k.Name → mark ts i ≡ Some (modifier_at ts i modifier.Mark, i + 2)
   unfolding mark
-  mark_read i at name = rw (sees_yes ts i k.At at, sees_yes ts (i + 1) k.Name name)
+  mark_read i at name = rw (sees_it false ts i k.At at, sees_it false ts (i + 1) k.Name name)
 
   no_word : (i : ℕ) (a : Kind) → seen false ts i ≡ a → same_kind a k.End ≡ false → modifier_of false a ≡ None → modifier_of (jml_at ts i) (kind_at ts i) ≡ None
-  no_word i a e end none = let is = seen_is false ts i a e end in ap (λ b. modifier_of b (kind_at ts i)) is.0 ∙ ap (λ x. modifier_of false x) is.1 ∙ none
+  no_word i a e end none = let is = kind_seen false ts i a e end in ap (λ b. modifier_of b (kind_at ts i)) is.0 ∙ ap (λ x. modifier_of false x) is.1 ∙ none
 
   pub modifier_read : {i j : ℕ} {m : Modifier} → ModifierAt ts i m j → one_modifier ts i ≡ Some (m, j)
   unfolding one_modifier same_kind
@@ -221,36 +205,36 @@ module _ (ts : List Token) where
   pub modifier_on : {i j : ℕ} {m : Modifier} → ModifierAt ts i m j → (i < j) × (i < length ts)
   unfolding same_kind
   modifier_on (g.word {i = i} {kind = kind} e) = (omega arith, below (length ts) i (λ past. some_not (modifier_of (jml_at ts i) (kind_at ts i)) kind e (no_word_behind ts i past)))
-  modifier_on (g.mark {i = i} at name) = (omega arith, stands false ts i k.At at refl)
+  modifier_on (g.mark {i = i} at name) = (omega arith, taken false ts i k.At at refl)
 
   pub modifiers_on : {i j : ℕ} {ms : List Modifier} → Many (ModifierAt ts) i ms j → i ≤ j
   modifiers_on g.none = omega arith
   modifiers_on (g.one_more m ms) = omega (arith, (modifier_on m).0, modifiers_on ms)
 
-  no_mark : (i : ℕ) → sees ts i k.At ≡ false → mark ts i ≡ None
+  no_mark : (i : ℕ) → sees false ts i k.At ≡ false → mark ts i ≡ None
   unfolding mark
   no_mark i e = rw e
 
   pub no_modifier : (i : ℕ) → declares (seen false ts i) ≡ true → one_modifier ts i ≡ None
   unfolding one_modifier
-  no_modifier i d = let p = plain (seen false ts i) d in rw (no_word i (seen false ts i) refl p.2 p.0) (no_mark i (sees_other ts i (seen false ts i) k.At refl p.1))
+  no_modifier i d = let p = plain (seen false ts i) d in rw (no_word i (seen false ts i) refl p.2 p.0) (no_mark i (sees_other false ts i (seen false ts i) k.At refl p.1))
 
   pub opposite : (i : ℕ) (a : Kind) → seen true ts i ≡ a → same_kind a k.End ≡ false → seen false ts i ≡ k.End
   unfolding seen
-  opposite i a e end = ap (λ b. seen_as false b (kind_at ts i)) (seen_is true ts i a e end).0
+  opposite i a e end = ap (λ b. seen_as false b (kind_at ts i)) (kind_seen true ts i a e end).0
 
   -- no modifier begins at a token of such a kind
   pub no_modifier_of : (i : ℕ) (a : Kind) → seen false ts i ≡ a → modifier_of false a ≡ None → same_kind a k.At ≡ false → same_kind a k.End ≡ false → one_modifier ts i ≡ None
   unfolding one_modifier
-  no_modifier_of i a e none at end = rw (no_word i a e end none) (no_mark i (sees_other ts i a k.At e at))
+  no_modifier_of i a e none at end = rw (no_word i a e end none) (no_mark i (sees_other false ts i a k.At e at))
 
   -- nor at one of an annotation
   pub no_modifier_in : (i : ℕ) (a : Kind) → seen true ts i ≡ a → modifier_of true a ≡ None → same_kind a k.End ≡ false → one_modifier ts i ≡ None
   unfolding one_modifier same_kind
   no_modifier_in i a e none end =
-      let is = seen_is true ts i a e end in
+      let is = kind_seen true ts i a e end in
       let word : modifier_of (jml_at ts i) (kind_at ts i) ≡ None = ap (λ b. modifier_of b (kind_at ts i)) is.0 ∙ ap (λ x. modifier_of true x) is.1 ∙ none in
-      rw word (no_mark i (sees_other ts i k.End k.At (opposite i a e end) refl))
+      rw word (no_mark i (sees_other false ts i k.End k.At (opposite i a e end) refl))
 
   -- what begins with modifiers begins with one, or with what stands behind them
   pub begins : {i j : ℕ} {ms : List Modifier} → Many (ModifierAt ts) i ms j → declares (seen false ts j) ≡ true → one_modifier ts i ≡ None → declares (seen false ts i) ≡ true
@@ -268,45 +252,23 @@ module _ (ts : List Token) where
   modifiers_read {j = j} ms d = modifiers_all (length ts) [] (omega arith) ms (no_modifier j d)
 
   pub type_begins : {i j : ℕ} {t : TypeName} → TypeOf ts i t j → declares (seen false ts i) ≡ true
-  type_begins (single {i = i} {t = t} e) = begins_element (seen false ts i) (name_at ts i) t e
-  type_begins (array {i = i} {t = t} e o c) = begins_element (seen false ts i) (name_at ts i) t e
+  type_begins {i = i} typed = type_declares (seen false ts i) (types.type_begins ts typed)
 
-  pub type_on : {i j : ℕ} {t : TypeName} → TypeOf ts i t j → i < j
-  type_on (single e) = omega arith
-  type_on (array e o c) = omega arith
-
-  element_read : (i : ℕ) (t : ElementType) → element_of (seen false ts i) (name_at ts i) ≡ Some t → element ts i ≡ Ok t
-  unfolding element
-  element_read i t e = rw e
-
-  is_no_array : (i : ℕ) → seen false ts (i + 1) ≡ k.Name → is_array ts i ≡ false
-  unfolding is_array same_kind
-  is_no_array i e = rw (other (i + 1) k.Name k.OpenBracket e refl)
-
-  array_read : (i : ℕ) → seen false ts (i + 1) ≡ k.OpenBracket → seen false ts (i + 2) ≡ k.CloseBracket → is_array ts i ≡ true
-  unfolding is_array
-  array_read i o c = rw (sees_yes ts (i + 1) k.OpenBracket o, sees_yes ts (i + 2) k.CloseBracket c)
-
-  pub type_read : {i j : ℕ} {t : TypeName} → TypeOf ts i t j → seen false ts j ≡ k.Name → type_name ts i ≡ Ok (t, j)
-  unfolding type_name
-  type_read (single {i = i} {t = t} e) name = rw (element_read i t e, is_no_array i name)
-  type_read (array {i = i} {t = t} e o c) name = rw (element_read i t e, array_read i o c)
-
-  names_read : (n : ℕ) {i j : ℕ} {xs : List Name} → length ts ≤ i + n → Listed ts (NameAt ts) i xs j → sees ts j k.Comma ≡ false → names ts n i ≡ Ok j
+  names_read : (n : ℕ) {i j : ℕ} {xs : List Name} → length ts ≤ i + n → Listed false ts (NameAt ts) i xs j → sees false ts j k.Comma ≡ false → names ts n i ≡ Ok j
   unfolding names same_kind
-  names_read zero fuel (g.last (g.name {i = i} h)) stop = absurd (omega (arith, stands false ts i k.Name h refl))
-  names_read zero fuel (g.one_more (g.name {i = i} h) comma rest) stop = absurd (omega (arith, stands false ts i k.Name h refl))
-  names_read (suc n) fuel (g.last (g.name {i = i} h)) stop = rw (expected ts i k.Name h, stop)
-  names_read (suc n) fuel (g.one_more (g.name {i = i} h) comma rest) stop = rw (expected ts i k.Name h, sees_yes ts (i + 1) k.Comma comma) (names_read n (omega arith) rest stop)
+  names_read zero fuel (last (g.name {i = i} h)) stop = absurd (omega (arith, taken false ts i k.Name h refl))
+  names_read zero fuel (more (g.name {i = i} h) comma rest) stop = absurd (omega (arith, taken false ts i k.Name h refl))
+  names_read (suc n) fuel (last (g.name {i = i} h)) stop = rw (expected false ts i k.Name h, stop)
+  names_read (suc n) fuel (more (g.name {i = i} h) comma rest) stop = rw (expected false ts i k.Name h, sees_it false ts (i + 1) k.Comma comma) (names_read n (omega arith) rest stop)
 
   pub throws_read : {i j : ℕ} → Throws ts i j → seen false ts j ≡ k.OpenBrace → throws ts i ≡ Ok j
   unfolding throws same_kind
   throws_read {j = j} g.nothing brace = rw (other j k.OpenBrace k.Throws brace refl)
-  throws_read {i = i} {j = j} (g.throws h xs) brace = rw (sees_yes ts i k.Throws h) (names_read (length ts) (omega arith) xs (other j k.OpenBrace k.Comma brace refl))
+  throws_read {i = i} {j = j} (g.throws h xs) brace = rw (sees_it false ts i k.Throws h) (names_read (length ts) (omega arith) xs (other j k.OpenBrace k.Comma brace refl))
 
-  names_on : {i j : ℕ} {xs : List Name} → Listed ts (NameAt ts) i xs j → i ≤ j
-  names_on (g.last (g.name h)) = omega arith
-  names_on (g.one_more (g.name h) comma rest) = omega (arith, names_on rest)
+  names_on : {i j : ℕ} {xs : List Name} → Listed false ts (NameAt ts) i xs j → i ≤ j
+  names_on (last (g.name h)) = omega arith
+  names_on (more (g.name h) comma rest) = omega (arith, names_on rest)
 
   pub throws_on : {i j : ℕ} → Throws ts i j → i ≤ j
   throws_on g.nothing = omega arith

@@ -15,7 +15,8 @@ use Rattle.jr_lexer.specs.Reading.{span_at}
 use Rattle.jr_ast.specs.declared.unit.Field.{Field}
 use Rattle.jr_ast.specs.Clauses.{MethodClause}
 use Rattle.jr_ast.specs.Units.{Method, Member, OfField, OfMethod, Class}
-use Rattle.jr_expr_parser.specs.Seen.{seen}
+use Rattle.jr_reading.specs.Seen.{seen}
+use Rattle.jr_reading.specs.Limits.{nesting_limit}
 use Rattle.jr_jml_parser.specs.Grammar.{SpellsMethod, SpellsClass}
 use Rattle.jr_jml_parser.specs.Nesting.{class_nesting}
 use Rattle.jr_stmt_parser.specs.Grammar.{Block}
@@ -25,19 +26,23 @@ use Rattle.jr_unit_parser.specs.declared.head.ClassHead.{ClassHead}
 use Rattle.jr_unit_parser.specs.declared.head.Declared.{Declared}
 use Rattle.jr_unit_parser.specs.declared.head.Declared.TheVariants as declared
 use Rattle.jr_unit_parser.specs.Answers as answers
-use Rattle.jr_unit_parser.specs.Finds.{Caused, Concerns, Misses, Fails, Found, AllOf, method_of, BodyAt, ShallowBody}
+use Rattle.jr_reading.specs.Answers.{Fits}
+use Rattle.jr_unit_parser.specs.Finds.{Caused, Concerns, Misses, Fails, AllOf, method_of, BodyAt, ShallowBody}
 use Rattle.jr_unit_parser.specs.Grammar as g
 use Rattle.jr_unit_parser.specs.Grammar.{Many, Imports, begins_import, FieldAt, SignatureAt, MemberAt, ClassHeadAt, ClassAt, SpellsUnit, modifier_of}
 use Rattle.jr_unit_parser.specs.Nesting.{ShallowClause, ShallowMethod, ShallowMember, ShallowClass, ShallowUnit}
 use Rattle.jr_unit_parser.specs.Plain.{IsPlain}
-use Rattle.jr_unit_parser.specs.Reading.{Outcome, same_kind, sees, refusal_at, imports, declared_at, class_head, begins_class_clause, clause_begins, member_begins, class_begins}
+use Rattle.jr_reading.specs.Outcomes.{Outcome}
+use Rattle.jr_reading.specs.Steps.{same_kind, sees, refusal_at}
+use Rattle.jr_unit_parser.specs.Steps.{imports, declared_at, class_head, begins_class_clause, clause_begins, member_begins, class_begins}
 use Rattle.jr_unit_parser.proofs.Ends.{part_fails}
 use Rattle.jr_unit_parser.proofs.OfFields.{OneDeclared}
 use Rattle.jr_unit_parser.proofs.OfMembers.{Behind, a_field, a_method, behind, Before, before, clauses_before, IsClause, is_clause, clause_member, member_rows, member_on}
 use Rattle.jr_unit_parser.proofs.OfParts.{declares, imports_told, imports_read, imports_within, no_modifier_of}
 use Rattle.jr_unit_parser.proofs.OfSignatures.{declared_told, class_head_told, class_head_read, class_head_begins, class_head_on, OneHead}
 use Rattle.jr_unit_parser.proofs.Rows.{Rows, concerns_to, one_row}
-use Rattle.jr_unit_parser.proofs.Told.{Told, caused_at, sees_is, seen_behind, stands}
+use Rattle.jr_reading.proofs.Tokens.{seen_is, unseen, taken}
+use Rattle.jr_unit_parser.proofs.Told.{Told, caused_at}
 
 no_both : (b : Bool) → b ≡ true → b ≡ false → ⊥
 no_both b e f = let both = sym e ∙ f in absurd cc
@@ -93,7 +98,7 @@ module _ (ts : List Token) where
   no_clauses first at cs g.none e = refl
   no_clauses first at cs (g.one_more one rest) e = absurd cc
 
-  pub field_found : (first at m : ℕ) (cs : List MethodClause) (f : Field) → Clauses first cs at → declared_at ts at ≡ Ok (declared.Field f, m) → cs ≡ [] → Found (MemberAt ts) ShallowMember first (OfField f) m
+  pub field_found : (first at m : ℕ) (cs : List MethodClause) (f : Field) → Clauses first cs at → declared_at ts at ≡ Ok (declared.Field f, m) → cs ≡ [] → Fits (MemberAt ts first) ShallowMember (OfField f) m
   field_found first at m cs f all e none = record {
     stands = g.field (subst (λ i. FieldAt ts i f m) (sym (no_clauses first at cs all.many none)) (declared_is at (declared.Field f, m) e));
     shallow = tt;
@@ -110,7 +115,7 @@ module _ (ts : List Token) where
   method_fails first at a cs s here all is Memory f = tt
   method_fails first at a cs s here all is (Refused r) f = record { caused = f.caused; nothing = λ x j member c. body_behind r is f (behind ts first at j cs x here all member) c }
 
-  pub method_found : (first at a j : ℕ) (cs : List MethodClause) (s : Signature) (m : Method) → Found Clauses (All ShallowClause) first cs at → declared_at ts at ≡ Ok (declared.Routine s, a) → Found (BodyAt ts first cs s) ShallowBody a m j → Found (MemberAt ts) ShallowMember first (OfMethod m) j
+  pub method_found : (first at a j : ℕ) (cs : List MethodClause) (s : Signature) (m : Method) → Fits (Clauses first) (All ShallowClause) cs at → declared_at ts at ≡ Ok (declared.Routine s, a) → Fits (BodyAt ts first cs s a) ShallowBody m j → Fits (MemberAt ts first) ShallowMember (OfMethod m) j
   method_found first at a j cs s m all is f =
       let b = f.stands in
       record {
@@ -120,10 +125,10 @@ module _ (ts : List Token) where
 
   -- ---- clauses of classes
 
-  clause_behind : {i j : ℕ} {x : Member} (r : Refusal) → Misses ts (SpellsClass ts) (λ c. class_nesting c ≤ 128) i r → IsClause ts i x j → Concerns r (ShallowMember x) → ⊥
+  clause_behind : {i j : ℕ} {x : Member} (r : Refusal) → Misses ts (SpellsClass ts) (λ c. class_nesting c ≤ nesting_limit) i r → IsClause ts i x j → Concerns r (ShallowMember x) → ⊥
   clause_behind r f (is_clause {j = j} {c = c} s) concerns = f.nothing c j s concerns
 
-  pub class_clause_fails : (i : ℕ) → begins_class_clause (seen true ts i) ≡ true → (e : Fail) → Fails ts (SpellsClass ts) (λ c. class_nesting c ≤ 128) i e → Fails ts (MemberAt ts) ShallowMember i e
+  pub class_clause_fails : (i : ℕ) → begins_class_clause (seen true ts i) ≡ true → (e : Fail) → Fails ts (SpellsClass ts) (λ c. class_nesting c ≤ nesting_limit) i e → Fails ts (MemberAt ts) ShallowMember i e
   class_clause_fails i b Memory f = tt
   class_clause_fails i b (Refused r) f = record { caused = f.caused; nothing = λ x j m c. clause_behind r f (clause_member ts i j x b m) c }
 
@@ -150,7 +155,7 @@ module _ (ts : List Token) where
 
   brace_at : (j : ℕ) → member_begins ts j ≡ false → seen false ts j ≡ k.CloseBrace
   unfolding member_begins
-  brace_at j e = sees_is ts j k.CloseBrace (back (sees ts j k.CloseBrace) e)
+  brace_at j e = seen_is false ts j k.CloseBrace (back (sees false ts j k.CloseBrace) e)
     where
       back : (b : Bool) → not b ≡ false → b ≡ true
       back true e = refl
@@ -162,7 +167,7 @@ module _ (ts : List Token) where
   abbrev class_of : ℕ → ClassHead → List Member → Class
   class_of first h ms = placed (span_at ts first) h ms
 
-  pub class_found : (first a j : ℕ) (h : ClassHead) (ms : List Member) (place : Span) → place ≡ span_at ts first → class_head ts first ≡ Ok (h, a) → Found (AllOf (MemberAt ts) (member_begins ts)) (All ShallowMember) a ms j → Found (ClassAt ts) ShallowClass first (placed place h ms) (j + 1)
+  pub class_found : (first a j : ℕ) (h : ClassHead) (ms : List Member) (place : Span) → place ≡ span_at ts first → class_head ts first ≡ Ok (h, a) → Fits (AllOf (MemberAt ts) (member_begins ts) a) (All ShallowMember) ms j → Fits (ClassAt ts first) ShallowClass (placed place h ms) (j + 1)
   class_found first a j h ms place at is f = record {
     stands = subst (λ (place : Span). ClassAt ts first (placed place h ms) (j + 1)) (sym at) (g.class (subst (λ o. Told ts (OneHead ts first) o) is (class_head_told ts first)) f.stands.many (brace_at j f.stands.ended));
     shallow = f.shallow;
@@ -174,7 +179,7 @@ module _ (ts : List Token) where
 
   brace_in : (j : ℕ) → seen false ts j ≡ k.CloseBrace → j < length ts
   unfolding same_kind
-  brace_in j e = stands false ts j k.CloseBrace e refl
+  brace_in j e = taken false ts j k.CloseBrace e refl
 
   pub class_on : (i j : ℕ) (x : Class) → ClassAt ts i x j → (i < j) × (j ≤ length ts)
   class_on i j x (g.class {j = m} head members brace) = (omega (arith, class_head_on ts head, members_on members), omega (arith, brace_in m brace))
@@ -195,10 +200,10 @@ module _ (ts : List Token) where
   -- ---- units
 
   pub refuses : (r : Refusal) → Caused ts r → ((cs : List Class) → SpellsUnit ts cs → Concerns r (ShallowUnit cs) → ⊥) → answers.Refuses ts r
-  refuses (refusal.Syntax s) caused nothing = λ cs u. nothing cs u tt
-  refuses (refusal.NotInProfile s) caused nothing = (λ cs u. nothing cs u tt, caused)
-  refuses (refusal.BigLiteral s) caused nothing = (λ cs u. nothing cs u tt, caused)
-  refuses (refusal.TooDeep s) caused nothing = (nothing, caused)
+  refuses (refusal.Syntax s) caused nothing = λ cs j u. nothing cs u tt
+  refuses (refusal.NotInProfile s) caused nothing = (λ cs j u. nothing cs u tt, caused)
+  refuses (refusal.BigLiteral s) caused nothing = (λ cs j u. nothing cs u tt, caused)
+  refuses (refusal.TooDeep s) caused nothing = (λ cs j u. nothing cs u, caused)
   refuses _ caused nothing = absurd caused
 
   import_word : (a : Kind) → begins_import a ≡ true → (modifier_of false a ≡ None) × (same_kind a k.At ≡ false) × (same_kind a k.End ≡ false) × (declares a ≡ false)
@@ -217,7 +222,7 @@ module _ (ts : List Token) where
           absurd (no_both (declares (seen false ts i)) (class_head_begins ts head (no_modifier_of ts i (seen false ts i) refl w.0 w.1 w.2)) w.3)
 
   no_import_behind : (i m : ℕ) (cs : List Class) → m ≡ length ts → Many (ClassAt ts) i cs m → begins_import (seen false ts i) ≡ false
-  no_import_behind i m cs e g.none = ap begins_import (seen_behind false ts i (omega arith))
+  no_import_behind i m cs e g.none = ap begins_import (unseen false ts i (omega arith))
   no_import_behind i m cs e (g.one_more c rest) = no_import_class c
 
   unit_imports : (i : ℕ) (cs : List Class) → Imports ts 0 i → Many (ClassAt ts) i cs (length ts) → imports ts (length ts) 0 ≡ Ok i
@@ -252,7 +257,7 @@ module _ (ts : List Token) where
   classes_within i j cs g.none within = within
   classes_within i j cs (g.one_more {j = n} {x = x} {xs = rest} c more) within = classes_within n j rest more (class_on i n x c).1
 
-  pub unit_found : (i j : ℕ) (cs : List Class) → imports ts (length ts) 0 ≡ Ok i → Found (AllOf (ClassAt ts) (class_begins ts)) (All ShallowClass) i cs j → answers.Fits ts cs
+  pub unit_found : (i j : ℕ) (cs : List Class) → imports ts (length ts) 0 ≡ Ok i → Fits (AllOf (ClassAt ts) (class_begins ts) i) (All ShallowClass) cs j → answers.Fits ts cs
   unfolding class_begins
   unit_found i j cs is f =
       let front = subst (λ o. Told ts (λ j. Imports ts 0 j) o) is (imports_told ts (length ts) 0) in

@@ -9,19 +9,28 @@ use Rattle.jr_base.specs.declared.refusal.Fail.TheVariants.{Memory, Refused}
 use Rattle.jr_lexer.specs.Token.{Token}
 use Rattle.jr_unit_parser.specs.Grammar as g
 use Rattle.jr_unit_parser.specs.Grammar.{Many}
-use Rattle.jr_unit_parser.specs.Finds.{Concerns, Fails, Found, AllOf}
+use Rattle.jr_reading.specs.Answers.{Fits}
+use Rattle.jr_unit_parser.specs.Finds.{Concerns, Fails, AllOf}
 
--- What the relation One says at most once of a place. The test says where one begins.
+-- What the relation One says at most once of an index. The test says where one begins.
 pub record Rows {A : Type 0} (One : ℕ → A → ℕ → Type 0) (begins : ℕ → Bool) : Type 0 where
   pub unique : (i j m : ℕ) (x y : A) → One i x j → One i y m → (x ≡ y) × (j ≡ m)
   pub begun : (i j : ℕ) (x : A) → One i x j → begins i ≡ true
 
--- The xs were read from the start up to a place: what stands from there on stands from the start behind the
+-- The xs were read from the start up to an index: what stands from there on stands from the start behind the
 -- xs, and all that stands from the start begins with the xs.
 pub record SoFar {A : Type 0} (One : ℕ → A → ℕ → Type 0) (Shallow : A → Type 0) (begins : ℕ → Bool) (start : ℕ) (xs : List A) (at : ℕ) : Type 0 where
   pub onto : (ys : List A) (j : ℕ) → Many One at ys j → Many One start (xs ++ ys) j
   pub all : (zs : List A) (j : ℕ) → AllOf One begins start zs j → (ys : List A) × (zs ≡ xs ++ ys) × AllOf One begins at ys j
   pub shallow : All Shallow xs
+
+pub joined : {A : Type 0} {One : ℕ → A → ℕ → Type 0} {i j m : ℕ} {xs ys : List A} → Many One i xs j → Many One j ys m → Many One i (xs ++ ys) m
+joined g.none more = more
+joined (g.one_more one rest) more = g.one_more one (joined rest more)
+
+-- what was read stands there
+pub read_so_far : {A : Type 0} {One : ℕ → A → ℕ → Type 0} {Shallow : A → Type 0} {begins : ℕ → Bool} {start at : ℕ} {xs : List A} → SoFar One Shallow begins start xs at → Many One start xs at
+read_so_far {One = One} {start = start} {at = at} {xs = xs} s = subst (λ zs. Many One start zs at) (append-nil xs) (s.onto [] at g.none)
 
 not_both : (b : Bool) → b ≡ true → b ≡ false → ⊥
 not_both b e f = let both = sym e ∙ f in absurd cc
@@ -41,7 +50,7 @@ module _ {A : Type 0} (ts : List Token) (One : ℕ → A → ℕ → Type 0) (Sh
   every_more : (xs : List A) (x : A) → All Shallow xs → Shallow x → All Shallow (xs ++ x ∷ [])
   every_more xs x a s = All-append Shallow xs (x ∷ []) a (All-cons Shallow x [] s (λ k d below. absurd (omega arith)))
 
-  -- what goes on at a place where the one is x, goes on behind x
+  -- what goes on at an index where the one is x, goes on behind x
   behind_many : Rows One begins → (at j m : ℕ) (x : A) (ys : List A) → One at x j → Many One at ys m → begins m ≡ false → (zs : List A) × (ys ≡ x ∷ zs) × AllOf One begins j zs m
   behind_many rows at j m x ys one g.none ended = absurd (not_both (begins at) (rows.begun at j x one) ended)
   behind_many rows at j m x ys one (g.one_more {j = n} {x = y} {xs = zs} other rest) ended =
@@ -61,9 +70,9 @@ module _ {A : Type 0} (ts : List Token) (One : ℕ → A → ℕ → Type 0) (Sh
     shallow = every_more xs x s.shallow shallow;
   }
 
-  pub all_found : (start at : ℕ) (xs : List A) → SoFar One Shallow begins start xs at → begins at ≡ false → Found (AllOf One begins) (All Shallow) start xs at
+  pub all_found : (start at : ℕ) (xs : List A) → SoFar One Shallow begins start xs at → begins at ≡ false → Fits (AllOf One begins start) (All Shallow) xs at
   all_found start at xs s ended = record {
-    stands = record { many = subst (λ zs. Many One start zs at) (append-nil xs) (s.onto [] at g.none); ended = ended };
+    stands = record { many = read_so_far s; ended = ended };
     shallow = s.shallow;
   }
 
@@ -81,7 +90,7 @@ module _ {A : Type 0} (ts : List Token) (One : ℕ → A → ℕ → Type 0) (Sh
   all_fail start at xs Memory s goes f = tt
   all_fail start at xs (Refused r) s goes f = record { caused = f.caused; nothing = λ zs j a c. nothing_more start at xs r s goes f.nothing zs j a c }
 
-  -- no two rows stand at a place
+  -- no two rows stand at an index
   pub one_row : Rows One begins → (i j m : ℕ) (xs ys : List A) → Many One i xs j → begins j ≡ false → Many One i ys m → begins m ≡ false → (xs ≡ ys) × (j ≡ m)
   one_row rows i j m xs ys g.none a g.none b = (refl, refl)
   one_row rows i j m xs ys g.none a (g.one_more {j = n} {x = y} one rest) b = absurd (not_both (begins i) (rows.begun i n y one) a)
@@ -97,6 +106,6 @@ map_more {A = A} view (y ∷ xs) x = ap (λ (zs : List A). view y ∷ zs) (map_m
 
 -- one more of what has the plain data
 pub pushed : {A B : Type 0} (ts : List Token) (view : B → A) (One : ℕ → A → ℕ → Type 0) (Shallow : A → Type 0) (begins : ℕ → Bool) → Rows One begins → (start at j : ℕ) (old new : List B) (x : B)
-    → SoFar One Shallow begins start (map view old) at → Found One Shallow at (view x) j → new ≡ old ++ x ∷ [] → SoFar One Shallow begins start (map view new) j
+    → SoFar One Shallow begins start (map view old) at → Fits (One at) Shallow (view x) j → new ≡ old ++ x ∷ [] → SoFar One Shallow begins start (map view new) j
 pushed {A = A} ts view One Shallow begins rows start at j old new x s f e =
     subst (λ (xs : List A). SoFar One Shallow begins start xs j) (sym (ap (map view) e ∙ map_more view old x)) (one_more ts One Shallow begins rows start at j (map view old) (view x) s f.stands f.shallow)

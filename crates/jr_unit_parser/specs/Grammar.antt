@@ -20,23 +20,20 @@ use Rattle.jr_ast.specs.declared.unit.MethodKind.TheVariants as kind
 use Rattle.jr_ast.specs.Clauses.{MethodClause, ClassClause}
 use Rattle.jr_ast.specs.Statements.{Stmts}
 use Rattle.jr_ast.specs.Units.{Method, Member, Empty, OfField, OfMethod, OfClause, Class}
-use Rattle.jr_expr_parser.specs.Seen.{seen, name_at, literal_at}
+use Rattle.jr_reading.specs.Seen.{seen, name_at, literal_at}
+use Rattle.jr_reading.specs.Listed.{Listed}
+use Rattle.jr_reading.specs.Types.{TypeOf}
 use Rattle.jr_jml_parser.specs.Grammar.{SpellsMethod, SpellsClass}
-use Rattle.jr_stmt_parser.specs.Grammar.{TypeOf, Block}
+use Rattle.jr_stmt_parser.specs.Grammar.{Block}
 use Rattle.jr_unit_parser.specs.declared.head.Signature.{Signature}
 use Rattle.jr_unit_parser.specs.declared.head.ClassHead.{ClassHead}
 
--- X ts i x j: the tokens from place i up to place j spell x.
+-- X ts i x j: the tokens from index i up to index j spell x.
 
 -- one after the other
 pub data Many {A : Type 0} (One : ℕ → A → ℕ → Type 0) : ℕ → List A → ℕ → Type 0 where
   none : {i : ℕ} → Many One i [] i
   one_more : {i j m : ℕ} {x : A} {xs : List A} → One i x j → Many One j xs m → Many One i (x ∷ xs) m
-
--- one or more, with commas between
-pub data Listed {A : Type 0} (ts : List Token) (One : ℕ → A → ℕ → Type 0) : ℕ → List A → ℕ → Type 0 where
-  last : {i j : ℕ} {x : A} → One i x j → Listed ts One i (x ∷ []) j
-  one_more : {i j m : ℕ} {x : A} {xs : List A} → One i x j → seen false ts j ≡ k.Comma → Listed ts One (j + 1) xs m → Listed ts One i (x ∷ xs) m
 
 pub data NameAt (ts : List Token) : ℕ → Name → ℕ → Type 0 where
   name : {i : ℕ} → seen false ts i ≡ k.Name → NameAt ts i (name_at ts i) (i + 1)
@@ -84,7 +81,7 @@ modifier_of true k.SpecSafeMath = Some modifier.SpecSafeMath
 modifier_of true k.SpecJavaMath = Some modifier.SpecJavaMath
 modifier_of _ _ = None
 
--- the modifier whose first token stands at a place
+-- the modifier whose first token stands at an index
 abbrev pub modifier_at : List Token → ℕ → ModifierKind → Modifier
 modifier_at ts i kind = record { place = span_at ts i; kind = kind }
 
@@ -109,7 +106,7 @@ pub data DeclaratorAt (ts : List Token) : ℕ → FieldDeclarator → ℕ → Ty
 
 pub data FieldAt (ts : List Token) : ℕ → Field → ℕ → Type 0 where
   field : {i a b j : ℕ} {ms : List Modifier} {t : TypeName} {ds : List FieldDeclarator}
-      → Many (ModifierAt ts) i ms a → TypeOf ts a t b → Listed ts (DeclaratorAt ts) b ds j → seen false ts j ≡ k.Semicolon
+      → Many (ModifierAt ts) i ms a → TypeOf ts a t b → Listed false ts (DeclaratorAt ts) b ds j → seen false ts j ≡ k.Semicolon
       → FieldAt ts i (record { place = span_at ts i; modifiers = ms; type_name = t; declarators = ds }) (j + 1)
 
 -- ---- methods (JLS 8.4) and constructors (JLS 8.8)
@@ -126,12 +123,12 @@ pub data FormalAt (ts : List Token) : ℕ → Formal → ℕ → Type 0 where
 -- from behind the opening bracket up to behind the closing one
 pub data Formals (ts : List Token) : ℕ → List Formal → ℕ → Type 0 where
   none : {i : ℕ} → seen false ts i ≡ k.CloseParen → Formals ts i [] (i + 1)
-  some : {i j : ℕ} {fs : List Formal} → Listed ts (FormalAt ts) i fs j → seen false ts j ≡ k.CloseParen → Formals ts i fs (j + 1)
+  some : {i j : ℕ} {fs : List Formal} → Listed false ts (FormalAt ts) i fs j → seen false ts j ≡ k.CloseParen → Formals ts i fs (j + 1)
 
 -- `throws` leaves nothing in the tree
 pub data Throws (ts : List Token) : ℕ → ℕ → Type 0 where
   nothing : {i : ℕ} → Throws ts i i
-  throws : {i j : ℕ} {xs : List Name} → seen false ts i ≡ k.Throws → Listed ts (NameAt ts) (i + 1) xs j → Throws ts i j
+  throws : {i j : ℕ} {xs : List Name} → seen false ts i ≡ k.Throws → Listed false ts (NameAt ts) (i + 1) xs j → Throws ts i j
 
 -- what stands between the clauses of a method or constructor and its block
 pub data SignatureAt (ts : List Token) : ℕ → Signature → ℕ → Type 0 where

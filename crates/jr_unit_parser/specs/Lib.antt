@@ -1,7 +1,7 @@
 pub mod Grammar
 pub mod Nesting
+pub mod Begins
 pub mod Answers
-pub mod Within
-pub mod Reading
+pub mod Steps
 pub mod Finds
 pub mod Plain

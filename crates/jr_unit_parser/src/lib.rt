@@ -9,8 +9,8 @@ mod head;
 mod members;
 mod parsing;
 mod parts;
+mod reader;
 mod signatures;
-mod source;
 #[cfg(test)]
 mod tests;
 mod words;

@@ -2,7 +2,7 @@
 
 ghost use Rattle.jr_unit_parser.specs.Answers.{Answers, OneUnit};
 
-use crate::source::Source;
+use crate::reader::UnitReader;
 use jr_ast::Unit;
 use jr_base::Fail;
 use jr_lexer::Tokens;
@@ -14,9 +14,9 @@ use std::alloc::Global;
 pub fn parse(alloc: Global, tokens: &Tokens) -> Result<Unit, Fail>
     ensures { Answers tokens.now result }
 {
-    let source = Source { alloc, tokens };
-    let first = source.imports()?;
-    let (classes, _) = source.classes(first)?;
+    let reader = UnitReader { alloc, tokens };
+    let first = reader.imports()?;
+    let (classes, _) = reader.classes(first)?;
     Ok(Unit { classes })
 }
 

@@ -1,23 +1,23 @@
-//! Packages and imports, modifiers, types and what a method throws.
+//! Packages and imports, modifiers and what a method throws.
 
-ghost use Rattle.std.specs.Prelude.{◌≡◌, ◌<◌, [], length, IfSome, IfOk, IsTrue};
+ghost use Rattle.std.specs.Prelude.{◌≡◌, ◌<◌, [], length, IfSome};
 ghost use Rattle.jr_lexer.specs.Answers.{Answers as Reads};
 ghost use Rattle.jr_lexer.specs.Reading.{jml_at, kind_at};
 ghost use Rattle.jr_unit_parser.specs.Grammar as grammar;
-ghost use Rattle.jr_unit_parser.specs.Reading as reading;
+ghost use Rattle.jr_unit_parser.specs.Steps as steps;
 
-use crate::source::Source;
+use crate::reader::UnitReader;
 use crate::words::{begins_import, is_part, modifier_of};
-use jr_ast::{ElementType, Modifier, ModifierKind, TypeName};
+use jr_ast::{Modifier, ModifierKind};
 use jr_base::Fail;
 use jr_lexer::Kind;
 use sqlite_items::Items;
 
-impl<'a> Source<'a> {
+impl<'a> UnitReader<'a> {
     /// What follows the first name of a package or an import, up to its `;`.
-    #[tactic(auto, using(crate::proofs::Places::turn_left, crate::proofs::Places::no_turn_left), unfolding(crate::specs::Reading::dotted))]
+    #[tactic(auto, using(jr_reading::proofs::Turns::turn_left, jr_reading::proofs::Turns::no_turn_left), unfolding(crate::specs::Steps::dotted))]
     fn dotted(&self, at: u32) -> Result<u32, Fail>
-        ensures { Reads (reading.dotted self.now.tokens.now (length self.now.tokens.now) at) result }
+        ensures { Reads (steps.dotted self.now.tokens.now (length self.now.tokens.now) at) result }
     {
         let mut at = at;
         for _turn in 0..self.tokens.len() {
@@ -33,10 +33,10 @@ impl<'a> Source<'a> {
     }
 
     /// A package or an import from its keyword on (JLS 7.4, 7.5).
-    #[tactic(auto, unfolding(crate::specs::Reading::import_at))]
+    #[tactic(auto, unfolding(crate::specs::Steps::import_at))]
     fn import(&self, at: u32) -> Result<u32, Fail>
         requires { at < 1048576 }
-        ensures { Reads (reading.import_at self.now.tokens.now at) result }
+        ensures { Reads (steps.import_at self.now.tokens.now at) result }
     {
         self.expect(at + 1, Kind::Name)?;
         let end = self.dotted(at + 2)?;
@@ -44,10 +44,10 @@ impl<'a> Source<'a> {
         Ok(end + 1)
     }
 
-    /// The packages and imports at the front, and the place behind them.
-    #[tactic(auto, using(crate::proofs::Places::turn_left, crate::proofs::Places::no_turn_left), unfolding(crate::specs::Reading::imports))]
+    /// The packages and imports at the front, and the index behind them.
+    #[tactic(auto, using(jr_reading::proofs::Turns::turn_left, jr_reading::proofs::Turns::no_turn_left), unfolding(crate::specs::Steps::imports))]
     pub fn imports(&self) -> Result<u32, Fail>
-        ensures { Reads (reading.imports self.now.tokens.now (length self.now.tokens.now) 0) result }
+        ensures { Reads (steps.imports self.now.tokens.now (length self.now.tokens.now) 0) result }
     {
         let mut at = 0;
         for _turn in 0..self.tokens.len() {
@@ -59,27 +59,27 @@ impl<'a> Source<'a> {
         Ok(at)
     }
 
-    /// `@ Name`, and the place behind it.
-    #[tactic(auto, unfolding(crate::specs::Reading::mark))]
+    /// `@ Name`, and the index behind it.
+    #[tactic(auto, unfolding(crate::specs::Steps::mark))]
     fn mark(&self, at: u32) -> Option<(Modifier, u32)>
-        ensures { result ≡ reading.mark self.now.tokens.now at }
+        ensures { result ≡ steps.mark self.now.tokens.now at }
     {
         if !self.sees(at, Kind::At) || !self.sees(at + 1, Kind::Name) {
             return None;
         }
-        let place = self.span(at);
+        let place = self.tokens.span(at);
         let kind = ModifierKind::Mark;
         Some((Modifier { place, kind }, at + 2))
     }
 
-    /// The modifier at a place, and the place behind it.
-    #[tactic(auto, unfolding(crate::specs::Reading::one_modifier))]
+    /// The modifier at an index, and the index behind it.
+    #[tactic(auto, unfolding(crate::specs::Steps::one_modifier))]
     fn modifier(&self, at: u32) -> Option<(Modifier, u32)>
-        ensures { result ≡ reading.one_modifier self.now.tokens.now at }
+        ensures { result ≡ steps.one_modifier self.now.tokens.now at }
     {
         match self.word(at) {
             Some(kind) => {
-                let place = self.span(at);
+                let place = self.tokens.span(at);
                 Some((Modifier { place, kind }, at + 1))
             }
             None => self.mark(at),
@@ -87,7 +87,7 @@ impl<'a> Source<'a> {
     }
 
     /// The modifier of one word.
-    #[tactic(auto, using(crate::proofs::Places::no_word_behind))]
+    #[tactic(auto, using(crate::proofs::Past::no_word_behind))]
     fn word(&self, at: u32) -> Option<ModifierKind>
         ensures value { result ≡ grammar.modifier_of (jml_at self.now.tokens.now at) (kind_at self.now.tokens.now at) }
         ensures within { IfSome result (λ _. at < 1048576) }
@@ -98,10 +98,10 @@ impl<'a> Source<'a> {
         modifier_of(self.tokens.is_jml(at), self.tokens.kind(at))
     }
 
-    /// The modifiers at a place, and the place behind them.
-    #[tactic(auto, using(crate::proofs::Places::turn_left, crate::proofs::Places::no_turn_left), unfolding(crate::specs::Reading::modifiers))]
+    /// The modifiers at an index, and the index behind them.
+    #[tactic(auto, using(jr_reading::proofs::Turns::turn_left, jr_reading::proofs::Turns::no_turn_left), unfolding(crate::specs::Steps::modifiers))]
     pub fn modifiers(&self, at: u32) -> Result<(Items<Modifier>, u32), Fail>
-        ensures { Reads (reading.modifiers self.now.tokens.now (length self.now.tokens.now) [] at) result }
+        ensures { Reads (steps.modifiers self.now.tokens.now (length self.now.tokens.now) [] at) result }
     {
         let mut found = Items::new(self.alloc);
         let mut at = at;
@@ -115,46 +115,10 @@ impl<'a> Source<'a> {
         Ok((found, at))
     }
 
-    /// Whether `[]` follows an element.
-    #[tactic(auto, unfolding(crate::specs::Reading::is_array))]
-    fn is_array(&self, at: u32) -> bool
-        requires { at < 1048576 }
-        ensures { result ≡ reading.is_array self.now.tokens.now at }
-    {
-        self.sees(at + 1, Kind::OpenBracket) && self.sees(at + 2, Kind::CloseBracket)
-    }
-
-    /// A type that is no array.
-    #[tactic(auto, unfolding(crate::specs::Reading::element))]
-    fn element(&self, at: u32) -> Result<ElementType, Fail>
-        ensures value { Reads (reading.element self.now.tokens.now at) result }
-        ensures within { IfOk result (λ _. at < 1048576) }
-    {
-        match self.seen(at) {
-            Kind::Int => Ok(ElementType::Int),
-            Kind::Long => Ok(ElementType::Long),
-            Kind::Boolean => Ok(ElementType::Boolean),
-            Kind::Name => Ok(ElementType::Class(self.name(at)?)),
-            _ => Err(Fail::Refused(self.refusal(at))),
-        }
-    }
-
-    /// A type (JLS 4.1, 10.1), and the place behind it.
-    #[tactic(auto, unfolding(crate::specs::Reading::type_name))]
-    pub fn type_name(&self, at: u32) -> Result<(TypeName, u32), Fail>
-        ensures { Reads (reading.type_name self.now.tokens.now at) result }
-    {
-        let element = self.element(at)?;
-        if self.is_array(at) {
-            return Ok((TypeName::ArrayOf(element), at + 3));
-        }
-        Ok((TypeName::Single(element), at + 1))
-    }
-
-    /// The names behind `throws`, with commas between, and the place behind them.
-    #[tactic(auto, using(crate::proofs::Places::turn_left, crate::proofs::Places::no_turn_left), unfolding(crate::specs::Reading::names))]
+    /// The names behind `throws`, with commas between, and the index behind them.
+    #[tactic(auto, using(jr_reading::proofs::Turns::turn_left, jr_reading::proofs::Turns::no_turn_left), unfolding(crate::specs::Steps::names))]
     fn names(&self, at: u32) -> Result<u32, Fail>
-        ensures { Reads (reading.names self.now.tokens.now (length self.now.tokens.now) at) result }
+        ensures { Reads (steps.names self.now.tokens.now (length self.now.tokens.now) at) result }
     {
         let mut at = at;
         for _turn in 0..self.tokens.len() {
@@ -168,10 +132,10 @@ impl<'a> Source<'a> {
         Err(Fail::Refused(self.refusal(at)))
     }
 
-    /// What a method throws, which leaves nothing (JLS 8.4.4), and the place behind it.
-    #[tactic(auto, unfolding(crate::specs::Reading::throws))]
+    /// What a method throws, which leaves nothing (JLS 8.4.4), and the index behind it.
+    #[tactic(auto, unfolding(crate::specs::Steps::throws))]
     pub fn throws(&self, at: u32) -> Result<u32, Fail>
-        ensures { Reads (reading.throws self.now.tokens.now at) result }
+        ensures { Reads (steps.throws self.now.tokens.now at) result }
     {
         if self.sees(at, Kind::Throws) {
             self.names(at + 1)

@@ -1,22 +1,24 @@
 //! What stands before a block or the members of a class.
 
-ghost use Rattle.std.specs.Prelude.{◌≡◌, ◌<◌, [], length, IfOk, IsTrue};
+ghost use Rattle.std.specs.Prelude.{◌≡◌, ◌<◌, [], length, false};
 ghost use Rattle.jr_lexer.specs.Answers.{Answers as Reads};
-ghost use Rattle.jr_unit_parser.specs.Reading as reading;
-ghost use Rattle.jr_unit_parser.specs.Within.{Within};
+ghost use Rattle.jr_reading.specs.Steps as common;
+ghost use Rattle.jr_unit_parser.specs.Steps as steps;
+ghost use Rattle.jr_reading.specs.Within.{Within};
 
 use crate::head::{ClassHead, Declared, Signature};
-use crate::source::Source;
+use crate::reader::UnitReader;
 use jr_ast::{Formal, MethodKind, Modifier};
 use jr_base::Fail;
 use jr_lexer::Kind;
+use jr_reading::View;
 use sqlite_items::Items;
 
-impl<'a> Source<'a> {
-    /// A formal (JLS 8.4.1), and the place behind it.
-    #[tactic(auto, unfolding(crate::specs::Reading::formal))]
+impl<'a> UnitReader<'a> {
+    /// A formal (JLS 8.4.1), and the index behind it.
+    #[tactic(auto, unfolding(crate::specs::Steps::formal))]
     fn formal(&self, at: u32) -> Result<(Formal, u32), Fail>
-        ensures { Reads (reading.formal self.now.tokens.now at) result }
+        ensures { Reads (steps.formal self.now.tokens.now at) result }
     {
         let (modifiers, at) = self.modifiers(at)?;
         let (type_name, at) = self.type_name(at)?;
@@ -30,10 +32,10 @@ impl<'a> Source<'a> {
         Ok((formal, at + 1))
     }
 
-    /// One or more formals with commas between, and the place behind them.
-    #[tactic(auto, using(crate::proofs::Places::turn_left, crate::proofs::Places::no_turn_left), unfolding(crate::specs::Reading::listed))]
+    /// One or more formals with commas between, and the index behind them.
+    #[tactic(auto, using(jr_reading::proofs::Turns::turn_left, jr_reading::proofs::Turns::no_turn_left), unfolding(jr_reading::specs::Steps::listed))]
     fn listed(&self, at: u32) -> Result<(Items<Formal>, u32), Fail>
-        ensures { Reads (reading.listed self.now.tokens.now (reading.formal self.now.tokens.now) (length self.now.tokens.now) [] at) result }
+        ensures { Reads (common.listed false self.now.tokens.now (steps.formal self.now.tokens.now) (length self.now.tokens.now) [] at) result }
     {
         let mut found = Items::new(self.alloc);
         let mut at = at;
@@ -48,10 +50,10 @@ impl<'a> Source<'a> {
         Err(Fail::Refused(self.refusal(at)))
     }
 
-    /// The formals from behind the opening bracket, and the place behind the closing one.
-    #[tactic(auto, unfolding(crate::specs::Reading::formals))]
+    /// The formals from behind the opening bracket, and the index behind the closing one.
+    #[tactic(auto, unfolding(crate::specs::Steps::formals))]
     fn formals(&self, at: u32) -> Result<(Items<Formal>, u32), Fail>
-        ensures { Reads (reading.formals self.now.tokens.now at) result }
+        ensures { Reads (steps.formals self.now.tokens.now at) result }
     {
         if self.sees(at, Kind::CloseParen) {
             return Ok((Items::new(self.alloc), at + 1));
@@ -62,8 +64,8 @@ impl<'a> Source<'a> {
     }
 
     /// What stands between the clauses of a method or constructor and its block, from the name on, and the
-    /// place behind it.
-    #[tactic(auto, unfolding(crate::specs::Reading::signature))]
+    /// index behind it.
+    #[tactic(auto, unfolding(crate::specs::Steps::signature))]
     fn signature(
         &self,
         modifiers: Items<Modifier>,
@@ -71,7 +73,7 @@ impl<'a> Source<'a> {
         at: u32,
     ) -> Result<(Declared, u32), Fail>
         requires { at < 1048576 }
-        ensures { Reads (reading.signature self.now.tokens.now modifiers kind at) result }
+        ensures { Reads (steps.signature self.now.tokens.now modifiers kind at) result }
     {
         let name = self.name(at)?;
         let (formals, end) = self.formals(at + 2)?;
@@ -86,17 +88,17 @@ impl<'a> Source<'a> {
     }
 
     /// Whether the name of a constructor stands there.
-    #[tactic(auto, unfolding(crate::specs::Reading::is_constructor))]
+    #[tactic(auto, unfolding(crate::specs::Steps::is_constructor))]
     fn is_constructor(&self, at: u32) -> bool
-        ensures { result ≡ reading.is_constructor self.now.tokens.now at }
+        ensures { result ≡ steps.is_constructor self.now.tokens.now at }
     {
         self.sees(at, Kind::Name) && self.sees(at + 1, Kind::OpenParen)
     }
 
-    /// What stands between the modifiers of a member and its name, and the place of the name.
-    #[tactic(auto, unfolding(crate::specs::Reading::method_kind))]
+    /// What stands between the modifiers of a member and its name, and the index of the name.
+    #[tactic(auto, unfolding(crate::specs::Steps::method_kind))]
     fn method_kind(&self, at: u32) -> Result<(MethodKind, u32), Fail>
-        ensures { Reads (reading.method_kind self.now.tokens.now at) result }
+        ensures { Reads (steps.method_kind self.now.tokens.now at) result }
     {
         if self.sees(at, Kind::Void) {
             return Ok((MethodKind::Void, at + 1));
@@ -108,10 +110,10 @@ impl<'a> Source<'a> {
         Ok((MethodKind::Valued(type_name), name))
     }
 
-    /// A field, or what stands before the block of a method or constructor, and the place behind it.
-    #[tactic(auto, unfolding(crate::specs::Reading::declared_at))]
+    /// A field, or what stands before the block of a method or constructor, and the index behind it.
+    #[tactic(auto, unfolding(crate::specs::Steps::declared_at))]
     pub fn declared(&self, first: u32) -> Result<(Declared, u32), Fail>
-        ensures { Reads (reading.declared_at self.now.tokens.now first) result }
+        ensures { Reads (steps.declared_at self.now.tokens.now first) result }
     {
         let (modifiers, at) = self.modifiers(first)?;
         let (kind, at) = self.method_kind(at)?;
@@ -125,25 +127,29 @@ impl<'a> Source<'a> {
         }
     }
 
-    /// Whether a word of a class's head stands there with the one class that may follow it, and the place
+    /// Whether a word of a class's head stands there with the one class that may follow it, and the index
     /// behind (JLS 8.1.4, 8.1.5).
-    #[tactic(auto, unfolding(crate::specs::Reading::above))]
+    #[tactic(auto, unfolding(crate::specs::Steps::above))]
     fn above(&self, word: Kind, class: &[u8], at: u32) -> Result<(bool, u32), Fail>
         requires { Within word at → at < 1048576 }
-        ensures { Reads (reading.above self.now.tokens.now word class.now at) result }
+        ensures { Reads (steps.above self.now.tokens.now word class.now at) result }
     {
         if !self.sees(at, word) {
             return Ok((false, at));
         }
-        self.expect(at + 1, Kind::Name)?;
-        self.expect_text(at + 1, class)?;
+        let view = View {
+            tokens: self.tokens,
+            jml: false,
+        };
+        view.expect(at + 1, Kind::Name)?;
+        view.expect_text(at + 1, class)?;
         Ok((true, at + 2))
     }
 
-    /// What stands before the members of a class, and the place behind it.
-    #[tactic(auto, unfolding(crate::specs::Reading::class_head))]
+    /// What stands before the members of a class, and the index behind it.
+    #[tactic(auto, unfolding(crate::specs::Steps::class_head))]
     pub fn class_head(&self, at: u32) -> Result<(ClassHead, u32), Fail>
-        ensures { Reads (reading.class_head self.now.tokens.now at) result }
+        ensures { Reads (steps.class_head self.now.tokens.now at) result }
     {
         let (modifiers, at) = self.modifiers(at)?;
         self.expect(at, Kind::Class)?;

@@ -264,7 +264,7 @@ static FIELDS: [(&[u8], &[u8]); 14] = [
     (b"class A { //@ requires true;\n int x; }", b"Syntax 14"),
 ];
 
-static METHODS: [(&[u8], &[u8]); 12] = [
+static METHODS: [(&[u8], &[u8]); 17] = [
     (
         b"class A { A(int n) { } void f() { ; ; } synchronized int[] g(final int a, B[] b) throws E, F { return null; } }",
         b"0:class A { 10:method 0 0 new A(int n;) 23:method 0 2 void f() 40:method 0 1 40:Synchronized int[] g(61:Final int a;B[] b;) }",
@@ -295,6 +295,34 @@ static METHODS: [(&[u8], &[u8]); 12] = [
         b"Syntax 23",
     ),
     (b"class A { void f() { x: ; } }", b"NotInProfile 21"),
+    (
+        b"class A { void f() { if (b) { x: ; } } }",
+        b"NotInProfile 30",
+    ),
+    (b"class A { b : }", b"Syntax 12"),
+    (b"class A { ; b : }", b"Syntax 14"),
+    (b"class A { void f() { } ; b : }", b"Syntax 27"),
+    (b"class A { void f() { x = p ? (q) r : s; } }", b"Syntax 33"),
+];
+
+/// Words that are left out, behind dots.
+static DOTTED: [(&[u8], &[u8]); 7] = [
+    (b"import a.super; class A { }", b"NotInProfile 9"),
+    (b"class A { a.super x; }", b"NotInProfile 12"),
+    (b"class A { int x = 1.super; }", b"NotInProfile 20"),
+    (
+        b"class A { void f() throws E.goto { } }",
+        b"NotInProfile 28",
+    ),
+    (b"class A { void f() { x.super = 1; } }", b"NotInProfile 23"),
+    (
+        b"class A { void f() { System.out.print(\"x\"); } }",
+        b"NotInProfile 32",
+    ),
+    (
+        b"class A { //@ requires x.goto;\n void f() { } }",
+        b"NotInProfile 25",
+    ),
 ];
 
 #[test]
@@ -309,7 +337,8 @@ fn fields_are_read(rt: HostRuntime) -> Result<(), test::Fail> {
 
 #[test]
 fn methods_are_read(rt: HostRuntime) -> Result<(), test::Fail> {
-    check(&rt, rt.alloc(), &METHODS)
+    check(&rt, rt.alloc(), &METHODS)?;
+    check(&rt, rt.alloc(), &DOTTED)
 }
 
 /// Programs that use most forms, and the names of their classes.

@@ -1,57 +1,11 @@
 //! Tables of words.
 
 ghost use Rattle.std.specs.Prelude.{◌≡◌};
-ghost use Rattle.jr_expr_parser.specs.Answers as answers;
 ghost use Rattle.jr_unit_parser.specs.Grammar as grammar;
-ghost use Rattle.jr_unit_parser.specs.Reading as reading;
+ghost use Rattle.jr_unit_parser.specs.Steps as steps;
 
 use jr_ast::ModifierKind;
 use jr_lexer::Kind;
-
-/// Whether a word or sign begins a form that is left out.
-pub fn left_out(jml: bool, kind: Kind) -> bool
-    ensures { result ≡ answers.left_out jml kind }
-{
-    match kind {
-        Kind::Switch
-        | Kind::Case
-        | Kind::Default
-        | Kind::Finally
-        | Kind::Instanceof
-        | Kind::Interface
-        | Kind::Enum
-        | Kind::Abstract
-        | Kind::Native
-        | Kind::Transient
-        | Kind::Strictfp
-        | Kind::Super
-        | Kind::Float
-        | Kind::Double
-        | Kind::Char
-        | Kind::Byte
-        | Kind::Short
-        | Kind::Goto
-        | Kind::Const
-        | Kind::Arrow => true,
-        Kind::Assert => !jml,
-        Kind::Signals
-        | Kind::Also
-        | Kind::Model
-        | Kind::Ghost
-        | Kind::Set
-        | Kind::Assume
-        | Kind::NormalBehavior
-        | Kind::ExceptionalBehavior
-        | Kind::LoopInvariant
-        | Kind::Maintaining
-        | Kind::Decreases
-        | Kind::Represents
-        | Kind::BackslashMax
-        | Kind::BackslashSum
-        | Kind::BackslashNumOf => jml,
-        _ => false,
-    }
-}
 
 /// The modifier of one word: of Java, or of JML in an annotation.
 pub fn modifier_of(jml: bool, kind: Kind) -> Option<ModifierKind>
@@ -94,7 +48,7 @@ pub fn is_part(kind: Kind) -> bool
 
 /// Whether a word of an annotation begins a clause of a method or constructor.
 pub fn begins_method_clause(kind: Kind) -> bool
-    ensures { result ≡ reading.begins_method_clause kind }
+    ensures { result ≡ steps.begins_method_clause kind }
 {
     matches!(
         kind,
@@ -109,7 +63,7 @@ pub fn begins_method_clause(kind: Kind) -> bool
 
 /// Whether a word of an annotation begins a clause of a class.
 pub fn begins_class_clause(kind: Kind) -> bool
-    ensures { result ≡ reading.begins_class_clause kind }
+    ensures { result ≡ steps.begins_class_clause kind }
 {
     matches!(
         kind,

@@ -1,8 +1,14 @@
-use Rattle.std.proofs.Common.{sym, ◌∙◌, ap}
+use Rattle.std.proofs.Common.{refl, sym, ◌∙◌, ap}
 use Rattle.jr_jml_parser.specs.Grammar.{is_visibility}
 use Rattle.jr_jml_parser.specs.Parts.{is_modifier}
-use Rattle.jr_jml_parser.proofs.Modifiers.{one_visible, one_static, all_passed, no_modifier, a_visibility}
+use Rattle.jr_jml_parser.proofs.Modifiers.{one_visible, one_static, all_passed, no_modifier, a_visibility, visibility_modifies, nearer}
 use Rattle.jr_jml_parser.proofs.parts.modifiers.Goals as goal
+
+pub loop-next-smaller-in-Public : goal.loop-next-smaller-in-Public
+loop-next-smaller-in-Public c = nearer _ _ _ c.seen.ensures.value (visibility_modifies _ c.in-Public.is)
+
+pub loop-next-smaller : goal.loop-next-smaller
+loop-next-smaller c = nearer _ _ _ c.in-Static.ensures.value refl
 
 pub loop-next-preserved-in-Public : goal.loop-next-preserved-in-Public
 loop-next-preserved-in-Public c = one_visible _ _ _ _ c.loop-next.invariant (ap is_visibility (sym c.seen.ensures.value) ∙ a_visibility _ c.in-Public.is)

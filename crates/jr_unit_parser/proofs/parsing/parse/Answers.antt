@@ -2,6 +2,7 @@ use Rattle.std.proofs.Common.{map}
 use Rattle.jr_ast.specs.Units.{view_class}
 use Rattle.jr_unit_parser.proofs.Ends.{answers_on}
 use Rattle.jr_unit_parser.proofs.OfUnits.{imports_fail, classes_fail, unit_found}
+use Rattle.jr_unit_parser.proofs.OfBodies.{imports_stand}
 use Rattle.jr_unit_parser.proofs.parsing.parse.Goals as goal
 
 pub returns-in_err-first : goal.returns-in_err-first
@@ -12,3 +13,6 @@ returns-in_err-classes c = answers_on c.args.tokens.now c.from_residual-in_err-c
 
 pub returns : goal.returns
 returns c = unit_found c.args.tokens.now c.in_ok-first.first _ (map view_class c.in_ok-classes.classes) c.in_ok-first.ensures c.in_ok-classes.ensures
+
+pub classes-requires : goal.classes-requires
+classes-requires c = imports_stand c.args.tokens.now c.in_ok-first.first c.in_ok-first.ensures

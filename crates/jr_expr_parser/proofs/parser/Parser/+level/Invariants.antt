@@ -1,12 +1,12 @@
 use Rattle.std.proofs.Common.{◌≡◌, ◌-◌, ◌*◌, ◌+◌, suc, ℕ}
-use Rattle.jr_expr_parser.specs.Reading as reading
+use Rattle.jr_expr_parser.specs.Reader as reader
 use Rattle.jr_expr_parser.specs.Nests.{inside, view_read}
 use Rattle.jr_expr_parser.proofs.parser.Parser.+level.Given as goal
 
 abbrev pub invariant-to_the_left-loop-turn : goal.invariant-to_the_left-loop-turn
 invariant-to_the_left-loop-turn g l =
-    let inner = λ (i : ℕ). inside reading.levels l.self.source l.self.room l.self.quantifiers (15 - l.level) (suc l.level) i in
-    inside reading.to_the_left l.self.source l.self.room inner l.level l.start ≡ inside reading.climb l.self.source l.self.room inner (l._turn-end - l._turn) l.level l.start (view_read l.left) l.at
+    let inner = λ (i : ℕ). inside reader.levels l.self.view l.self.room l.self.quantifiers (15 - l.level) (suc l.level) i in
+    inside reader.to_the_left l.self.view l.self.room inner l.level l.start ≡ inside reader.climb l.self.view l.self.room inner (l._turn-end - l._turn) l.level l.start (view_read l.left) l.at
 
 abbrev pub decreases-level : goal.decreases-level
 decreases-level g l = 2 * (16 - l.level) + 1

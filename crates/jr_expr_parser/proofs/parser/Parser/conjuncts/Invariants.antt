@@ -1,7 +1,7 @@
 use Rattle.std.proofs.Common.{◌≡◌, ◌-◌, [], length}
-use Rattle.jr_expr_parser.specs.Reading as reading
+use Rattle.jr_expr_parser.specs.Reader as reader
 use Rattle.jr_expr_parser.specs.Nests.{inside, view_list}
 use Rattle.jr_expr_parser.proofs.parser.Parser.conjuncts.Given as goal
 
 abbrev pub invariant-loop-turn : goal.invariant-loop-turn
-invariant-loop-turn g l = inside reading.conjuncts l.self.source l.self.room l.quantifiers (length l.self.source.tokens.now) [] l.start ≡ inside reading.conjuncts l.self.source l.self.room l.quantifiers (l._turn-end - l._turn) (view_list l.list) l.at
+invariant-loop-turn g l = inside reader.conjuncts l.self.view l.self.room l.quantifiers (length l.self.view.tokens.now) [] l.start ≡ inside reader.conjuncts l.self.view l.self.room l.quantifiers (l._turn-end - l._turn) (view_list l.list) l.at

@@ -1,19 +1,20 @@
 use Rattle.std.proofs.Common.{sym}
-use Rattle.jr_stmt_parser.proofs.Parts.{exits, fails_first, fails_pair, fails_rest, found_made, found_pair, found_then, rest_pair}
+use Rattle.jr_stmt_parser.proofs.Gives.{exits_in, leaf, fails_first, fails_pair, fails_rest, found_made, found_pair, found_then, rest_pair}
 use Rattle.jr_ast.proofs.Views.{view_synchronized}
+use Rattle.jr_stmt_parser.proofs.Begun.{in_synchronized}
 use Rattle.jr_stmt_parser.proofs.reader.Reader.synchronizeds.Goals as goal
 
 pub returns-in_err-start : goal.returns-in_err-start
-returns-in_err-start g c = exits _ _ c.from_residual.ensures.1 (fails_first c.in_err-start.ensures)
+returns-in_err-start g c = exits_in _ _ c.from_residual.ensures.1 (λ o w. fails_first (leaf c.in_err-start.ensures))
 
 pub returns-in_err-value : goal.returns-in_err-value
-returns-in_err-value g c = exits _ _ c.from_residual-in_err-value.ensures.1 (fails_rest c.in_ok-start.ensures (fails_pair c.in_err-value.ensures))
+returns-in_err-value g c = exits_in _ _ c.from_residual-in_err-value.ensures.1 (λ o w. fails_rest c.in_ok-start.ensures (fails_pair (leaf c.in_err-value.ensures)))
 
 pub returns-in_err-next : goal.returns-in_err-next
-returns-in_err-next g c = exits _ _ c.from_residual-in_err-next.ensures.1 (fails_rest c.in_ok-start.ensures (rest_pair c.in_ok-value.ensures (fails_first c.in_err-next.ensures)))
+returns-in_err-next g c = exits_in _ _ c.from_residual-in_err-next.ensures.1 (λ o w. fails_rest c.in_ok-start.ensures (rest_pair c.in_ok-value.ensures (fails_first (leaf c.in_err-next.ensures))))
 
 pub returns-in_err-body : goal.returns-in_err-body
-returns-in_err-body g c = exits _ _ c.from_residual-in_err-body.ensures.1 (fails_rest c.in_ok-start.ensures (rest_pair c.in_ok-value.ensures (fails_rest c.in_ok-next.ensures (fails_first c.in_err-body.ensures))))
+returns-in_err-body g c = exits_in _ _ c.from_residual-in_err-body.ensures.1 (λ o w. fails_rest c.in_ok-start.ensures (rest_pair c.in_ok-value.ensures (fails_rest c.in_ok-next.ensures (fails_first (c.in_err-body.ensures o (in_synchronized _ _ _ w c.in_ok-start.ensures c.in_ok-value.ensures c.in_ok-next.ensures))))))
 
 pub returns : goal.returns
 returns g c = found_then c.in_ok-start.ensures (found_pair c.in_ok-value.ensures (found_then c.in_ok-next.ensures (found_then c.in_ok-body.ensures (found_made (sym (view_synchronized _ _ _))))))

@@ -1,0 +1,9 @@
+pub mod Limits
+pub mod Seen
+pub mod Within
+pub mod LeftOut
+pub mod Types
+pub mod Listed
+pub mod Answers
+pub mod Outcomes
+pub mod Steps

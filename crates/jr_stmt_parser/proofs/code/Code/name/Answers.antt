@@ -1,0 +1,5 @@
+use Rattle.jr_stmt_parser.proofs.Gives.{exits, fails_of}
+use Rattle.jr_stmt_parser.proofs.code.Code.name.Goals as goal
+
+pub returns-in_err-next : goal.returns-in_err-next
+returns-in_err-next c = exits _ _ c.from_residual.ensures.1 (fails_of (λ l y m r. (tt, m, (r.0, r.1, r.3))) c.in_err-next.ensures)

@@ -1,5 +1,0 @@
-use Rattle.jr_stmt_parser.proofs.Parts.{exits, fails_first}
-use Rattle.jr_stmt_parser.proofs.source.Source.empty.Goals as goal
-
-pub returns-in_err-next : goal.returns-in_err-next
-returns-in_err-next c = exits _ _ c.from_residual.ensures.1 (fails_first c.in_err-next.ensures)

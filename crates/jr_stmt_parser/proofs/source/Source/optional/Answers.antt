@@ -1,9 +1,0 @@
-use Rattle.std.proofs.Common.{refl}
-use Rattle.jr_stmt_parser.proofs.Parts.{exits, fails_first, fails_split_second, found_made, found_second, found_then, no}
-use Rattle.jr_stmt_parser.proofs.source.Source.optional.Goals as goal
-
-pub returns-in_err-value : goal.returns-in_err-value
-returns-in_err-value c = exits _ _ c.from_residual.ensures.1 (fails_split_second (no c.sees.ensures c.if-sees.false) (fails_first c.in_err-value.ensures))
-
-pub returns : goal.returns
-returns c = found_second (no c.sees.ensures c.if-sees.false) (found_then c.in_ok-value.ensures (found_made refl))

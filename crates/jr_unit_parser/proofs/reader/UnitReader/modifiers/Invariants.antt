@@ -1,0 +1,6 @@
+use Rattle.std.proofs.Common.{◌≡◌, ◌-◌, [], length}
+use Rattle.jr_unit_parser.specs.Steps as steps
+use Rattle.jr_unit_parser.proofs.reader.UnitReader.modifiers.Given as goal
+
+abbrev pub invariant-loop-turn : goal.invariant-loop-turn
+invariant-loop-turn l = steps.modifiers l.self.tokens.now (length l.self.tokens.now) [] l.fn.at ≡ steps.modifiers l.self.tokens.now (l._turn-end - l._turn) l.found l.at

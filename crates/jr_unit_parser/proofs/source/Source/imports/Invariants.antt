@@ -1,6 +1,0 @@
-use Rattle.std.proofs.Common.{◌≡◌, ◌-◌, length}
-use Rattle.jr_unit_parser.specs.Reading as reading
-use Rattle.jr_unit_parser.proofs.source.Source.imports.Given as goal
-
-abbrev pub invariant-loop-turn : goal.invariant-loop-turn
-invariant-loop-turn l = reading.imports l.self.tokens.now (length l.self.tokens.now) 0 ≡ reading.imports l.self.tokens.now (l._turn-end - l._turn) l.at
