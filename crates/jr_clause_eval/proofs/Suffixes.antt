@@ -1,5 +1,7 @@
 -- What stands before suffixes, and what they make of it.
-use Rattle.std.proofs.Common.{◌≡◌, List, [], ◌∷◌, map, refl, sym, ap, ◌∙◌, subst}
+use Rattle.std.proofs.Common.{◌≡◌, List, [], ◌∷◌, ◌++◌, map, refl, sym, ap, ◌∙◌, subst}
+use Rattle.std.specs.Prelude.{Result, Ok, Err, IfOk}
+use Rattle.jr_base.specs.declared.refusal.Memory.{Memory}
 use Rattle.jr_base.specs.declared.value.Value.{Value}
 use Rattle.jr_program.specs.declared.words.Mode.{Mode}
 use Rattle.jr_program.specs.declared.clause.ClauseExpr.{ClauseExpr}
@@ -58,3 +60,28 @@ pub suffixed_objects : (x : ClauseShape) (primary : ClauseExpr) (suffixes : List
     → HasClassObjects (view_shape x) → HasClassObjects (view_expr primary) × SuffixesHaveClassObjects (map view_suffix suffixes)
 suffixed_objects x primary suffixes is h =
     objects_onto (view_expr primary) (map view_suffix suffixes) (subst HasClassObjects (ap view_shape is ∙ view_suffixed primary suffixes) h)
+
+of_parts_objects : (e : Spec) (suffix : Suffix) → HasClassObjects e → SuffixHasClassObjects suffix → HasClassObjects (applied e suffix)
+of_parts_objects e (Field f slot) h first = h
+of_parts_objects e (Element i) h first = (h, first)
+of_parts_objects e Length h first = h
+
+onto_objects : (e : Spec) (suffixes : List Suffix) → HasClassObjects e → SuffixesHaveClassObjects suffixes → HasClassObjects (onto e suffixes)
+onto_objects e [] h rest = h
+onto_objects e (suffix ∷ suffixes) h rest = onto_objects (applied e suffix) suffixes (of_parts_objects e suffix h rest.0) rest.1
+
+-- what stands before suffixes has class objects, and they have: so has the whole
+objects_of_whole : (whole e : Spec) (suffixes : List Suffix) → whole ≡ onto e suffixes → HasClassObjects e → SuffixesHaveClassObjects suffixes
+    → HasClassObjects whole
+objects_of_whole whole e suffixes is h rest = subst HasClassObjects (sym is) (onto_objects e suffixes h rest)
+
+pub result_objects : (result : Result ClauseExpr Memory) (e : Spec) (suffixes : List Suffix) → IfOk result (λ x. view_expr x ≡ onto e suffixes)
+    → HasClassObjects e → SuffixesHaveClassObjects suffixes → IfOk result (λ x. HasClassObjects (view_expr x))
+result_objects (Ok x) e suffixes is h rest = objects_of_whole (view_expr x) e suffixes is h rest
+result_objects (Err f) e suffixes is h rest = tt
+
+-- one more suffix
+pub one_more_suffix : (before : List ClauseSuffix) (suffix : ClauseSuffix) → SuffixesHaveClassObjects (map view_suffix before)
+    → SuffixHasClassObjects (view_suffix suffix) → SuffixesHaveClassObjects (map view_suffix (before ++ suffix ∷ []))
+one_more_suffix [] suffix have first = (first, tt)
+one_more_suffix (s ∷ ss) suffix have first = (have.0, one_more_suffix ss suffix have.1 first)

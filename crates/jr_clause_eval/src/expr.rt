@@ -3,17 +3,18 @@
 ghost use Rattle.std.specs.Prelude.{◌≡◌, map, cond};
 ghost use Rattle.jr_program.specs.ClauseViews.{view_expr, view_shape, view_suffix, view_quantified};
 ghost use Rattle.jr_meaning.specs.Worth as worths;
-ghost use Rattle.jr_meaning.specs.Worth.{Worth};
+ghost use Rattle.jr_meaning.specs.Worth.{Worth, with_value};
 ghost use Rattle.jr_clause_eval.specs.ClassObjects.{HasClassObjects};
 ghost use Rattle.jr_clause_eval.specs.Instances.{instance_worth};
-ghost use Rattle.jr_clause_eval.specs.Outcomes.{worth_of};
+ghost use Rattle.jr_clause_eval.specs.Outcomes.{worth_of, with_right, and_right, or_right, implies_right, implied_by_right};
 ghost use Rattle.jr_clause_eval.specs.Scenes.{setting_in};
 ghost use Rattle.jr_clause_eval.specs.Suffixes.{suffix_worth, suffixes_worth, SuffixHasClassObjects, SuffixesHaveClassObjects};
 
 use crate::heaps::Heaps;
-use crate::outcome::{Outcome, binary, truth_in_value, unary};
+use crate::outcome::{Outcome, binary, converted, truth_in_outcome, unary};
 use crate::range::instances_between;
 use crate::scene::{Bindings, Scene};
+use jr_arith::Binary;
 use jr_base::{Ask, ObjId, Value};
 use jr_program::{ClauseExpr, ClauseShape, ClauseSuffix, QuantifiedExpr, Quantifier};
 
@@ -47,77 +48,159 @@ fn value_of_shape<H: Heaps>(shape: &ClauseShape, scene: &Scene<'_>, heaps: &mut 
         ClauseShape::StaticField(_, at) => scene.ask(heaps, Ask::Cell(*at)),
         ClauseShape::ClassObject(class) => Ok(Value::Ref(ObjId(class.0 + 1))),
         ClauseShape::Suffixed(primary, suffixes) => {
-            let start = value(primary, scene, heaps)?;
+            let start = value(primary, scene, heaps);
             value_behind(suffixes.as_slice(), start, scene, heaps)
         }
-        ClauseShape::Convert(to, operand) => Ok(to.convert(value(operand, scene, heaps)?)),
+        ClauseShape::Convert(to, operand) => converted(*to, value(operand, scene, heaps)),
         ClauseShape::Unary(operator, operand) => {
-            let a = value(operand, scene, heaps)?;
-            unary(scene.mode, *operator, a)
+            unary(scene.mode, *operator, value(operand, scene, heaps))
         }
         ClauseShape::Binary(operator, left, right) => {
-            let a = value(left, scene, heaps)?;
-            let b = value(right, scene, heaps)?;
-            binary(scene.mode, *operator, a, b)
+            let left = value(left, scene, heaps);
+            value_with_right(*operator, left, right, scene, heaps)
         }
         ClauseShape::And(left, right) => {
-            if truth_in_value(value(left, scene, heaps)?)? {
-                value(right, scene, heaps)
-            } else {
-                Ok(Value::Bool(false))
-            }
+            let left = value(left, scene, heaps);
+            value_of_and(left, right, scene, heaps)
         }
         ClauseShape::Or(left, right) => {
-            if truth_in_value(value(left, scene, heaps)?)? {
-                Ok(Value::Bool(true))
-            } else {
-                value(right, scene, heaps)
-            }
+            let left = value(left, scene, heaps);
+            value_of_or(left, right, scene, heaps)
         }
         ClauseShape::Choice(condition, first, second) => {
-            if truth_in_value(value(condition, scene, heaps)?)? {
+            if truth_in_outcome(value(condition, scene, heaps))? {
                 value(first, scene, heaps)
             } else {
                 value(second, scene, heaps)
             }
         }
         ClauseShape::Implies(premise, conclusion) => {
-            if truth_in_value(value(premise, scene, heaps)?)? {
-                value(conclusion, scene, heaps)
-            } else {
-                Ok(Value::Bool(true))
-            }
+            let premise = value(premise, scene, heaps);
+            value_of_implies(premise, conclusion, scene, heaps)
         }
         ClauseShape::ImpliedBy(conclusion, premise) => {
-            if truth_in_value(value(conclusion, scene, heaps)?)? {
-                Ok(Value::Bool(true))
-            } else {
-                Ok(Value::Bool(!truth_in_value(value(premise, scene, heaps)?)?))
-            }
+            let conclusion = value(conclusion, scene, heaps);
+            value_of_implied_by(conclusion, premise, scene, heaps)
         }
         ClauseShape::Old(operand) => value(operand, &scene.on_old(), heaps),
-        ClauseShape::InLockset(object) => {
-            let object = value(object, scene, heaps)?;
-            Ok(Value::Bool(scene.owns(object)))
-        }
+        ClauseShape::InLockset(object) => scene.in_lockset(value(object, scene, heaps)),
         ClauseShape::Quantified(quantified) => value_over_instances(quantified.get(), scene, heaps),
     }
 }
 
-// What the suffixes make of the value of what stands before them.
+// What an operator gives, where the left operand's outcome is there.
+#[cycle(evaluate)]
+fn value_with_right<H: Heaps>(
+    operator: Binary,
+    left: Outcome,
+    right: &ClauseExpr,
+    scene: &Scene<'_>,
+    heaps: &mut H,
+) -> Outcome
+    requires { HasClassObjects (view_expr right.now) }
+    ensures worth { worth_of result ≡ with_right scene.now.mode (setting_in scene.now (H.shown heaps.old)) operator (worth_of left) (view_expr right.now) }
+    ensures same { H.shown heaps.new ≡ H.shown heaps.old }
+    ensures follows { (start : H) → H.follows start heaps.old → H.follows start heaps.new }
+{
+    let a = left?;
+    let b = value(right, scene, heaps)?;
+    binary(scene.mode, operator, a, b)
+}
+
+// `&&` (JLS 15.23), where the left operand came out so.
+#[cycle(evaluate)]
+fn value_of_and<H: Heaps>(
+    left: Outcome,
+    right: &ClauseExpr,
+    scene: &Scene<'_>,
+    heaps: &mut H,
+) -> Outcome
+    requires { HasClassObjects (view_expr right.now) }
+    ensures worth { worth_of result ≡ and_right scene.now.mode (setting_in scene.now (H.shown heaps.old)) (worth_of left) (view_expr right.now) }
+    ensures same { H.shown heaps.new ≡ H.shown heaps.old }
+    ensures follows { (start : H) → H.follows start heaps.old → H.follows start heaps.new }
+{
+    if truth_in_outcome(left)? {
+        value(right, scene, heaps)
+    } else {
+        Ok(Value::Bool(false))
+    }
+}
+
+// `||` (JLS 15.24), where the left operand came out so.
+#[cycle(evaluate)]
+fn value_of_or<H: Heaps>(
+    left: Outcome,
+    right: &ClauseExpr,
+    scene: &Scene<'_>,
+    heaps: &mut H,
+) -> Outcome
+    requires { HasClassObjects (view_expr right.now) }
+    ensures worth { worth_of result ≡ or_right scene.now.mode (setting_in scene.now (H.shown heaps.old)) (worth_of left) (view_expr right.now) }
+    ensures same { H.shown heaps.new ≡ H.shown heaps.old }
+    ensures follows { (start : H) → H.follows start heaps.old → H.follows start heaps.new }
+{
+    if truth_in_outcome(left)? {
+        Ok(Value::Bool(true))
+    } else {
+        value(right, scene, heaps)
+    }
+}
+
+// `==>` (JML Reference Manual, "Predicates and Specification Expressions"), where the premise came out so.
+#[cycle(evaluate)]
+fn value_of_implies<H: Heaps>(
+    premise: Outcome,
+    conclusion: &ClauseExpr,
+    scene: &Scene<'_>,
+    heaps: &mut H,
+) -> Outcome
+    requires { HasClassObjects (view_expr conclusion.now) }
+    ensures worth { worth_of result ≡ implies_right scene.now.mode (setting_in scene.now (H.shown heaps.old)) (worth_of premise) (view_expr conclusion.now) }
+    ensures same { H.shown heaps.new ≡ H.shown heaps.old }
+    ensures follows { (start : H) → H.follows start heaps.old → H.follows start heaps.new }
+{
+    if truth_in_outcome(premise)? {
+        value(conclusion, scene, heaps)
+    } else {
+        Ok(Value::Bool(true))
+    }
+}
+
+// `<==`, where the conclusion, which stands first, came out so.
+#[cycle(evaluate)]
+fn value_of_implied_by<H: Heaps>(
+    conclusion: Outcome,
+    premise: &ClauseExpr,
+    scene: &Scene<'_>,
+    heaps: &mut H,
+) -> Outcome
+    requires { HasClassObjects (view_expr premise.now) }
+    ensures worth { worth_of result ≡ implied_by_right scene.now.mode (setting_in scene.now (H.shown heaps.old)) (worth_of conclusion) (view_expr premise.now) }
+    ensures same { H.shown heaps.new ≡ H.shown heaps.old }
+    ensures follows { (start : H) → H.follows start heaps.old → H.follows start heaps.new }
+{
+    if truth_in_outcome(conclusion)? {
+        return Ok(Value::Bool(true));
+    }
+    let premise = truth_in_outcome(value(premise, scene, heaps))?;
+    Ok(Value::Bool(!premise))
+}
+
+// What the suffixes make of what stands before them.
 #[cycle(evaluate)]
 fn value_behind<H: Heaps>(
     suffixes: &[ClauseSuffix],
-    start: Value,
+    start: Outcome,
     scene: &Scene<'_>,
     heaps: &mut H,
 ) -> Outcome
     requires { SuffixesHaveClassObjects (map view_suffix suffixes.now) }
-    ensures worth { worth_of result ≡ suffixes_worth scene.now.mode (setting_in scene.now (H.shown heaps.old)) (map view_suffix suffixes.now) start }
+    ensures worth { worth_of result ≡ with_value (worth_of start) (suffixes_worth scene.now.mode (setting_in scene.now (H.shown heaps.old)) (map view_suffix suffixes.now)) }
     ensures same { H.shown heaps.new ≡ H.shown heaps.old }
     ensures follows { (start : H) → H.follows start heaps.old → H.follows start heaps.new }
 {
-    let mut reached = start;
+    let mut reached = start?;
     for suffix in suffixes {
         reached = value_of_suffix(suffix, reached, scene, heaps)?;
     }
@@ -188,7 +271,7 @@ fn value_of_instance<H: Heaps>(
         bound: &bound,
         ..*scene
     };
-    if truth_in_value(value(&quantified.conjuncts, &inner, heaps)?)? {
+    if truth_in_outcome(value(&quantified.conjuncts, &inner, heaps))? {
         value(&quantified.body, &inner, heaps)
     } else {
         Ok(Value::Bool(goes_on(quantified.quantifier)))

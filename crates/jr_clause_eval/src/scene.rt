@@ -104,6 +104,13 @@ impl<'a> Scene<'a> {
         }
     }
 
+    /// Whether the monitor of the object that an outcome is is owned (JML thread clauses, `\lockset.has`).
+    pub fn in_lockset(&self, object: Outcome) -> Outcome
+        ensures { worth_of result ≡ worths.with_value (worth_of object) (λ o. worths.truth (worths.owned_by (owned_in self.now.locks.now) o)) }
+    {
+        Ok(Value::Bool(self.owns(object?)))
+    }
+
     /// What the heap that is read has there. Undefined where it has nothing there.
     pub fn ask<H: Heaps>(&self, heaps: &mut H, what: Ask) -> Outcome
         ensures worth { worth_of result ≡ worths.worth_seen (heap_of self.now (H.shown heaps.old) what) }

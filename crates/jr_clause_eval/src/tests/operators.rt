@@ -106,8 +106,8 @@ fn unary_operators_in_both_modes(rt: HostRuntime) -> Result<(), Fail> {
             Ok(Value::Bool(false)),
         ),
     ] {
-        assert_eq!(rt; unary(Mode::Java, operator, a), java);
-        assert_eq!(rt; unary(Mode::Safe, operator, a), safe);
+        assert_eq!(rt; unary(Mode::Java, operator, Ok(a)), java);
+        assert_eq!(rt; unary(Mode::Safe, operator, Ok(a)), safe);
     }
     Ok(())
 }

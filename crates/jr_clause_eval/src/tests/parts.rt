@@ -1,16 +1,18 @@
 //! What an expression of each form is worth.
 
-ghost use Rattle.std.specs.Prelude.{IfOk};
-ghost use Rattle.jr_program.specs.ClauseViews.{view_expr};
+ghost use Rattle.std.specs.Prelude.{IfOk, map};
+ghost use Rattle.jr_program.specs.ClauseViews.{view_expr, view_suffix};
 ghost use Rattle.jr_clause_eval.specs.ClassObjects.{HasClassObjects};
+ghost use Rattle.jr_clause_eval.specs.Suffixes.{SuffixesHaveClassObjects};
 
 use super::build::{Around, Leaf, Recorder, array_of, environment, leaf_of, surrounded};
 use crate::expr::value as value_of;
 use crate::outcome::{Outcome, Stuck};
 use crate::scene::{Bindings, Scene};
 use jr_arith::{Binary, Width};
-use jr_base::{Locks, Memory, ObjId, Value};
-use jr_program::{ClauseExpr, ClauseShape, Mode};
+use jr_base::{FieldId, Locks, Memory, ObjId, Value};
+use jr_program::{ClauseExpr, ClauseShape, ClauseSuffix, Mode};
+use sqlite_items::Items;
 use std::alloc::Global;
 use std::test::Fail;
 
@@ -81,6 +83,34 @@ fn values_of_parts(rt: HostRuntime) -> Result<(), Fail> {
         let expr = surrounded(alloc, outside, inside)?;
         assert_eq!(rt; worth(alloc, &expr)?, expected, "{inside:?} {outside:?}");
     }
+    Ok(())
+}
+
+/// So many suffixes `.g`, of slot 0.
+fn links(alloc: Global, count: u32) -> Result<Items<ClauseSuffix>, Memory>
+    ensures { IfOk result (λ suffixes. SuffixesHaveClassObjects (map view_suffix suffixes)) }
+{
+    let mut suffixes = Items::new(alloc);
+    for _ in 0..count {
+        suffixes.push(ClauseSuffix::Field(FieldId(0), 0))?;
+    }
+    Ok(suffixes)
+}
+
+/// `this.g.g..` with so many links.
+fn chain(alloc: Global, count: u32) -> Result<ClauseExpr, Memory>
+    ensures { IfOk result (λ e. HasClassObjects (view_expr e)) }
+{
+    let this = ClauseExpr::new(alloc, ClauseShape::This)?;
+    let suffixes = links(alloc, count)?;
+    ClauseExpr::suffixed(alloc, this, suffixes)
+}
+
+/// Half a million links are read by a loop.
+#[test]
+fn follows_a_long_chain(rt: HostRuntime) -> Result<(), Fail> {
+    let expr = chain(rt.alloc(), 500_000)?;
+    assert_eq!(rt; worth(rt.alloc(), &expr)?, OBJECT);
     Ok(())
 }
 

@@ -16,19 +16,11 @@ use Rattle.jr_clause_eval.proofs.Quantified.{whole, decided, still_open, undecid
 use Rattle.jr_clause_eval.proofs.Suffixes.{suffixed_worth, suffixed_objects}
 use Rattle.jr_clause_eval.proofs.expr.+evaluate.Goals as goal
 
-pub value_of_shape-value-requires : goal.value_of_shape-value-requires
-value_of_shape-value-requires g t c κs within =
+pub value_of_shape-value-start-requires : goal.value_of_shape-value-start-requires
+value_of_shape-value-start-requires g t c κs within =
     let objects : HasClassObjects (view_expr c.in-Suffixed.primary) =
     (suffixed_objects c.args.shape.now c.in-Suffixed.primary c.in-Suffixed.suffixes c.in-Suffixed.is c.requires).0 in
     first_of (search (rules, the_lemmas, get_or_read), grind (the_lemmas, arith, common_steps) steps 2000000)
-
-pub value_of_shape-returns-in_err-start-in-Suffixed-clause-worth : goal.value_of_shape-returns-in_err-start-in-Suffixed-clause-worth
-value_of_shape-returns-in_err-start-in-Suffixed-clause-worth g t c =
-    let s = setting_in c.args.scene.now (g.H.Heaps.shown c.args.heaps.now) in
-    let stuck : worth_of c.from_residual.result
-    ≡ with_value (worth c.args.scene.now.mode s (view_expr c.in-Suffixed.primary)) (suffixes_worth c.args.scene.now.mode s (map view_suffix c.in-Suffixed.suffixes))
-    = first_of (search rules, grind (arith, common_steps)) in
-    stuck ∙ sym (suffixed_worth c.args.scene.now.mode s c.args.shape.now c.in-Suffixed.primary c.in-Suffixed.suffixes c.in-Suffixed.is)
 
 pub value_of_shape-value_behind-requires : goal.value_of_shape-value_behind-requires
 value_of_shape-value_behind-requires g t c κs within =
@@ -37,14 +29,14 @@ value_of_shape-value_behind-requires g t c κs within =
     (suffixed_objects c.args.shape.now c.in-Suffixed.primary c.in-Suffixed.suffixes c.in-Suffixed.is c.requires).1 in
     first_of (search (rules, the_lemmas, get_or_read), grind (the_lemmas, arith, common_steps) steps 2000000)
 
-pub value_of_shape-returns-in_ok-start-in-Suffixed-clause-worth : goal.value_of_shape-returns-in_ok-start-in-Suffixed-clause-worth
-value_of_shape-returns-in_ok-start-in-Suffixed-clause-worth g t c =
+pub value_of_shape-returns-in-Suffixed-clause-worth : goal.value_of_shape-returns-in-Suffixed-clause-worth
+value_of_shape-returns-in-Suffixed-clause-worth g t c =
     let mode = c.args.scene.now.mode in
     let s = setting_in c.args.scene.now (g.H.Heaps.shown c.args.heaps.now) in
     c.value_behind.ensures.worth
-    ∙ ap (λ (xs : List ClauseSuffix). suffixes_worth mode (setting_in c.args.scene.now (g.H.Heaps.shown c.value.new.heaps)) (map view_suffix xs) c.in_ok-start-in-Suffixed.start) c.as_slice.ensures
-    ∙ ap (λ (h : Shown). suffixes_worth mode (setting_in c.args.scene.now h) (map view_suffix c.in-Suffixed.suffixes) c.in_ok-start-in-Suffixed.start) c.value.ensures.same
-    ∙ ap (λ (w : Worth). with_value w (suffixes_worth mode s (map view_suffix c.in-Suffixed.suffixes))) c.in_ok-start-in-Suffixed.ensures.worth
+    ∙ ap (λ (xs : List ClauseSuffix). with_value (worth_of c.value-start.result) (suffixes_worth mode (setting_in c.args.scene.now (g.H.Heaps.shown c.value-start.new.heaps)) (map view_suffix xs))) c.as_slice.ensures
+    ∙ ap (λ (h : Shown). with_value (worth_of c.value-start.result) (suffixes_worth mode (setting_in c.args.scene.now h) (map view_suffix c.in-Suffixed.suffixes))) c.value-start.ensures.same
+    ∙ ap (λ (w : Worth). with_value w (suffixes_worth mode s (map view_suffix c.in-Suffixed.suffixes))) c.value-start.ensures.worth
     ∙ sym (suffixed_worth mode s c.args.shape.now c.in-Suffixed.primary c.in-Suffixed.suffixes c.in-Suffixed.is)
 
 pub value_over_instances-loop-k-init : goal.value_over_instances-loop-k-init
