@@ -440,10 +440,10 @@ widened_arguments_program = record {
     locals = kind.Ref ∷ [];
     result = None;
     body = Then (Declare 0 (NewObject
-        (class 1) (and_then (Convert width.Long (Number width.Int (pos 1))) no_more))) (Do (Evaluate (Assign (FieldOf
+        (class 1) (and_then (Convert width.Long (Number width.Int (pos 1))) no_more))) (Then (Do (Evaluate (Assign (FieldOf
         (Read (Local 0)) (field 0)) (Choice (Binary (binary.Compare compare.Greater width.Int) (Number width.Int (pos 1))
         (Number width.Int (pos 2))) (ResultOf (CallOn (Read (Local 0)) (method 2) (and_then (Number width.Int (pos 2))
-        no_more))) (Convert width.Long (Number width.Int (pos 3)))))));
+        no_more))) (Convert width.Long (Number width.Int (pos 3))))))) Skip);
   } ∷ record {
     name = codes "new";
     class = class 1;

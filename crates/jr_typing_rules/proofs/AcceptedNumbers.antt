@@ -286,8 +286,8 @@ numbers_in_source_order_program = record {
     body = Then (Println (Literal (text 0) ∷ [])) (Then (Declare 1 (Read (Local 0))) (Then (Assert
         (clause 5) (0 ∷ 1 ∷ [])) (Then (Try (Println (Literal (text 1) ∷ Shown (Read (Local 1)) ∷ Literal (text 2) ∷ []))
         (or_catch faults.Exception 2 (Then (Declare 3 (Number width.Int (pos 1))) (Then (Println (Literal (text 3) ∷ []))
-        (Assert (clause 6) (0 ∷ 1 ∷ 3 ∷ [])))) no_catch)) (Then (Declare 4 (Number width.Int (pos 2))) (Assert (clause 7)
-        (0 ∷ 1 ∷ 4 ∷ []))))));
+        (Then (Assert (clause 6) (0 ∷ 1 ∷ 3 ∷ [])) Skip))) no_catch)) (Then (Declare 4 (Number width.Int (pos 2))) (Then
+        (Assert (clause 7) (0 ∷ 1 ∷ 4 ∷ [])) Skip)))));
   } ∷ record {
     name = codes "g";
     class = class 0;
@@ -299,10 +299,10 @@ numbers_in_source_order_program = record {
     locals = kind.Int ∷ [];
     result = None;
     body =
-        Then (Println (Literal (text 4) ∷ [])) (Then (Assert (clause 9) (0 ∷ [])) (Then (Declare 1 (Number width.Int (pos
-        0))) (Loop (Binary (binary.Compare compare.Less width.Int) (Read (Local 1)) (Number width.Int (pos 3))) (Evaluate
-        (PostfixIncrement width.Int (Local 1) (pos 1)) ∷ []) (Then (Assert (clause 10) (0 ∷ 1 ∷ [])) (Println (Literal
-        (text 5) ∷ Shown (Read (Local 1)) ∷ Literal (text 6) ∷ []))))));
+        Then (Println (Literal (text 4) ∷ [])) (Then (Assert (clause 9) (0 ∷ [])) (Then (Then (Declare 1 (Number width.Int (pos
+        0))) (Then (Loop (Binary (binary.Compare compare.Less width.Int) (Read (Local 1)) (Number width.Int (pos 3)))
+        (Evaluate (PostfixIncrement width.Int (Local 1) (pos 1)) ∷ []) (Then (Assert (clause 10) (0 ∷ 1 ∷ [])) (Then
+        (Println (Literal (text 5) ∷ Shown (Read (Local 1)) ∷ Literal (text 6) ∷ [])) Skip))) Skip)) Skip));
   } ∷ record {
     name = codes "new";
     class = class 0;
@@ -314,7 +314,7 @@ numbers_in_source_order_program = record {
     locals = [];
     result = None;
     body = Then (Assert (clause 12) (0 ∷ [])) (Then (Do (Evaluate (Assign (FieldOf This
-        (field 0)) (Read (Local 0))))) (Println (Literal (text 7) ∷ [])));
+        (field 0)) (Read (Local 0))))) (Then (Println (Literal (text 7) ∷ [])) Skip));
   } ∷ record {
     name = codes "main";
     class = class
@@ -328,7 +328,7 @@ numbers_in_source_order_program = record {
         kind.Int ∷ [];
     result = None;
     body = Then (Declare 0 (Number width.Int (pos 1))) (Then (Assert (clause 14) (0 ∷
-        [])) (Println (Literal (text 8) ∷ [])));
+        [])) (Then (Println (Literal (text 8) ∷ [])) Skip));
   } ∷ record {
     name = codes "h";
     class = class 1;

@@ -1,5 +1,5 @@
 -- A body that ends by the rules of its source ends by those of its program (JLS 8.4.7, 14.21).
-use Rattle.std.proofs.Common.{◌≡◌, ◌||◌, ◌&&◌, inr, Bool, true, false, cond, List, [], ◌∷◌, ◌++◌, length, map, Option, Some, None, is_none, not, refl, ap}
+use Rattle.std.proofs.Common.{◌≡◌, ◌||◌, ◌&&◌, inl, inr, Bool, true, false, cond, List, [], ◌∷◌, ◌++◌, length, map, Option, Some, None, is_none, not, refl, ap}
 use Rattle.std.specs.Prelude.{nat_le}
 use Rattle.jr_base.specs.declared.number.Span.{Span}
 use Rattle.jr_base.specs.declared.refusal.Refusal.TheVariants.{Mismatch}
@@ -17,6 +17,7 @@ use Rattle.jr_typing_rules.specs.declared.words.VariableKind.{VariableKind}
 use Rattle.jr_typing_rules.specs.declared.words.VariableKind.TheVariants as variable
 use Rattle.jr_typing_rules.specs.Answers.{Typing, Good, Bad, ◌>>=◌, each}
 use Rattle.jr_typing_rules.specs.Scopes.{Scope, Variable, variable_named, own_field}
+use Rattle.jr_program.specs.StatementViews as several
 use Rattle.jr_typing_rules.specs.Denotations.{Value, value_of}
 use Rattle.jr_typing_rules.specs.Expressions.{value}
 use Rattle.jr_typing_rules.specs.Ends.{is_true, is_missing_or_true, breaks, any_breaks, any_catch_breaks, ends, last_ends, all_catches_end}
@@ -25,15 +26,23 @@ use Rattle.jr_typing_rules.proofs.Holding.{Holds, holds-next, holds-then, holds-
 
 -- ---- blocks
 
+NoBreak-several : (xs : List Statement) → Each NoBreak xs → NoBreak (several.chained xs)
+NoBreak-several [] all = tt
+NoBreak-several (x ∷ xs) all = (all.0, NoBreak-several xs all.1)
+
 NoBreak-chained : (xs : List Statement) → Each NoBreak xs → NoBreak (chained xs)
 NoBreak-chained [] all = tt
 NoBreak-chained (x ∷ []) all = all.0
-NoBreak-chained (x ∷ y ∷ ys) all = (all.0, NoBreak-chained (y ∷ ys) all.1)
+NoBreak-chained (x ∷ y ∷ ys) all = (all.0, NoBreak-several (y ∷ ys) all.1)
+
+ends-several : (xs : List Statement) (x : Statement) → AlwaysEnds x → AlwaysEnds (several.chained (xs ++ x ∷ []))
+ends-several [] x e = inl e
+ends-several (y ∷ ys) x e = inr (ends-several ys x e)
 
 ends-chained : (xs : List Statement) (x : Statement) → AlwaysEnds x → AlwaysEnds (chained (xs ++ x ∷ []))
 ends-chained [] x e = e
-ends-chained (y ∷ []) x e = inr e
-ends-chained (y ∷ z ∷ zs) x e = inr (ends-chained (z ∷ zs) x e)
+ends-chained (y ∷ []) x e = inr (ends-several [] x e)
+ends-chained (y ∷ z ∷ zs) x e = inr (ends-several (z ∷ zs) x e)
 
 block : (P : Statement → Type 0) (before : State) (t : Typing Mades) → Holds (λ made. P (chained made.statements)) t → Holds (λ made. P made.statement) (t >>= ends_block before)
 block P before (Good made) h = h

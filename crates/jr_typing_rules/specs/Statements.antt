@@ -13,6 +13,7 @@ use Rattle.jr_arith.specs.declared.operator.Width.TheVariants as width
 use Rattle.jr_program.specs.WellFormed.{most_in_scope, most_parts}
 use Rattle.jr_program.specs.Programs as program
 use Rattle.jr_program.specs.Programs.{Statement, Effect}
+use Rattle.jr_program.specs.StatementViews as block
 use Rattle.jr_ast.specs.declared.name.Name.{Name}
 use Rattle.jr_ast.specs.declared.name.TypeName.{TypeName}
 use Rattle.jr_ast.specs.declared.name.TypeName.TheVariants as written
@@ -74,11 +75,11 @@ scope_in frame state = record { names = frame.names; own = frame.own; is_static 
 abbrev pub makes : State → Statement → Typing Made
 makes state s = Good (record { state = state; statement = s })
 
--- a block is a chain of its statements
+-- one statement is itself, and several are a block
 abbrev pub chained : List Statement → Statement
 chained [] = program.Skip
 chained (s ∷ []) = s
-chained (s ∷ ss) = program.Then s (chained ss)
+chained (s ∷ t ∷ ss) = program.Then s (block.chained (t ∷ ss))
 
 -- ---- variables
 
