@@ -110,11 +110,13 @@ fn method_kind(alloc: Global, of: &[u8]) -> Result<MethodKind, Memory> {
 }
 
 fn member(alloc: Global, text: &[u8]) -> Result<Member, Memory> {
-    if text == b"main".as_slice() {
-        return member(alloc, b"function void !main !String[] a");
-    }
+    let written = if text == b"main".as_slice() {
+        b"function void !main !String[] a".as_slice()
+    } else {
+        text
+    };
     let mut words = Vec::new(alloc);
-    for word in text.split(|byte| *byte == b' ') {
+    for word in written.split(|byte| *byte == b' ') {
         words.push(word)?;
     }
     match words.as_slice() {
