@@ -1,6 +1,7 @@
 //! What an expression of a clause is worth.
 
 ghost use Rattle.std.specs.Prelude.{◌≡◌, map, cond};
+ghost use Rattle.jr_program.specs.Clauses as specs;
 ghost use Rattle.jr_program.specs.ClauseViews.{view_expr, view_shape, view_suffix, view_quantified};
 ghost use Rattle.jr_meaning.specs.Worth as worths;
 ghost use Rattle.jr_meaning.specs.Worth.{Worth, with_value};
@@ -14,7 +15,7 @@ use crate::heaps::Heaps;
 use crate::outcome::{Outcome, binary, converted, truth_in_outcome, unary};
 use crate::range::instances_between;
 use crate::scene::{Bindings, Scene};
-use jr_arith::Binary;
+use jr_arith::{Binary, Unary, Width};
 use jr_base::{Ask, ObjId, Value};
 use jr_program::{ClauseExpr, ClauseShape, ClauseSuffix, QuantifiedExpr, Quantifier};
 
@@ -51,10 +52,8 @@ fn value_of_shape<H: Heaps>(shape: &ClauseShape, scene: &Scene<'_>, heaps: &mut 
             let start = value(primary, scene, heaps);
             value_behind(suffixes.as_slice(), start, scene, heaps)
         }
-        ClauseShape::Convert(to, operand) => converted(*to, value(operand, scene, heaps)),
-        ClauseShape::Unary(operator, operand) => {
-            unary(scene.mode, *operator, value(operand, scene, heaps))
-        }
+        ClauseShape::Convert(to, operand) => value_converted(*to, operand, scene, heaps),
+        ClauseShape::Unary(operator, operand) => value_of_unary(*operator, operand, scene, heaps),
         ClauseShape::Binary(operator, left, right) => {
             let left = value(left, scene, heaps);
             value_with_right(*operator, left, right, scene, heaps)
@@ -82,10 +81,64 @@ fn value_of_shape<H: Heaps>(shape: &ClauseShape, scene: &Scene<'_>, heaps: &mut 
             let conclusion = value(conclusion, scene, heaps);
             value_of_implied_by(conclusion, premise, scene, heaps)
         }
-        ClauseShape::Old(operand) => value(operand, &scene.on_old(), heaps),
-        ClauseShape::InLockset(object) => scene.in_lockset(value(object, scene, heaps)),
+        ClauseShape::Old(operand) => value_of_old(operand, scene, heaps),
+        ClauseShape::InLockset(object) => value_of_lockset(object, scene, heaps),
         ClauseShape::Quantified(quantified) => value_over_instances(quantified.get(), scene, heaps),
     }
+}
+
+// A number, brought to a width (JLS 5.1.2).
+#[cycle(evaluate)]
+fn value_converted<H: Heaps>(
+    to: Width,
+    operand: &ClauseExpr,
+    scene: &Scene<'_>,
+    heaps: &mut H,
+) -> Outcome
+    requires { HasClassObjects (view_expr operand.now) }
+    ensures worth { worth_of result ≡ worths.worth scene.now.mode (setting_in scene.now (H.shown heaps.old)) (specs.Convert to (view_expr operand.now)) }
+    ensures same { H.shown heaps.new ≡ H.shown heaps.old }
+    ensures follows { (start : H) → H.follows start heaps.old → H.follows start heaps.new }
+{
+    converted(to, value(operand, scene, heaps))
+}
+
+// An operator before its operand.
+#[cycle(evaluate)]
+fn value_of_unary<H: Heaps>(
+    operator: Unary,
+    operand: &ClauseExpr,
+    scene: &Scene<'_>,
+    heaps: &mut H,
+) -> Outcome
+    requires { HasClassObjects (view_expr operand.now) }
+    ensures worth { worth_of result ≡ worths.worth scene.now.mode (setting_in scene.now (H.shown heaps.old)) (specs.Unary operator (view_expr operand.now)) }
+    ensures same { H.shown heaps.new ≡ H.shown heaps.old }
+    ensures follows { (start : H) → H.follows start heaps.old → H.follows start heaps.new }
+{
+    unary(scene.mode, operator, value(operand, scene, heaps))
+}
+
+// `\old` (JML Reference Manual, "\old").
+#[cycle(evaluate)]
+fn value_of_old<H: Heaps>(operand: &ClauseExpr, scene: &Scene<'_>, heaps: &mut H) -> Outcome
+    requires { HasClassObjects (view_expr operand.now) }
+    ensures worth { worth_of result ≡ worths.worth scene.now.mode (setting_in scene.now (H.shown heaps.old)) (specs.Old (view_expr operand.now)) }
+    ensures same { H.shown heaps.new ≡ H.shown heaps.old }
+    ensures follows { (start : H) → H.follows start heaps.old → H.follows start heaps.new }
+{
+    value(operand, &scene.on_old(), heaps)
+}
+
+// `\lockset.has`, whether the monitor of an object is owned.
+#[cycle(evaluate)]
+fn value_of_lockset<H: Heaps>(object: &ClauseExpr, scene: &Scene<'_>, heaps: &mut H) -> Outcome
+    requires { HasClassObjects (view_expr object.now) }
+    ensures worth { worth_of result ≡ worths.worth scene.now.mode (setting_in scene.now (H.shown heaps.old)) (specs.InLockset (view_expr object.now)) }
+    ensures same { H.shown heaps.new ≡ H.shown heaps.old }
+    ensures follows { (start : H) → H.follows start heaps.old → H.follows start heaps.new }
+{
+    scene.in_lockset(value(object, scene, heaps))
 }
 
 // What an operator gives, where the left operand's outcome is there.
