@@ -4,8 +4,10 @@ mod Example
 pub mod Exits
 pub mod Expressions
 pub mod Follow
+pub mod Growing
 pub mod Locals
 pub mod Operands
+pub mod Parts
 pub mod Places
 pub mod Regions
 pub mod RightEffects

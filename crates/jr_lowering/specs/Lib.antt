@@ -1,4 +1,5 @@
 pub mod Emitted
+pub mod Encoded
 pub mod ExprCode
 pub mod Ops
 pub mod ProgramCode

@@ -1,10 +1,16 @@
 -- What an emitted instruction is.
+use Rattle.jr_base.specs.Threads.{class_object}
+use Rattle.jr_base.specs.declared.value.Value.TheVariants as values
 use Rattle.jr_lowering.specs.declared.op.Op.{Op}
 use Rattle.jr_lowering.specs.declared.op.Op.TheVariants as ops
 use Rattle.jr_code.specs.Instructions.{Instruction, Push, Load, Store, Pop, Dup, Dup2, DupX1, DupX2, OneOperand, TwoOperands, ConvertTo, Jump, JumpNot, BackTo, GetField, PutField, GetStatic, PutStatic, GetElement, PutElement, ArrayLength, Make, MakeArray, EnterMonitor, ExitMonitor, OnObject, WaitForTime, SleepFor, YieldNow, CallStaticMethod, CallMethodOn, ReturnNothing, ReturnTop, CommitNow, AssertThat, PrintAll, ThrowNew, ThrowLocal}
 
 abbrev pub means : Op → Instruction
-means (ops.Push v) = Push v
+means (ops.PushInt n) = Push (values.Int n)
+means (ops.PushLong n) = Push (values.Long n)
+means (ops.PushTruth b) = Push (values.Bool b)
+means ops.PushNull = Push values.Null
+means (ops.PushClass class) = Push (values.Ref (class_object class))
 means (ops.Load x) = Load x
 means (ops.Store x) = Store x
 means ops.Pop = Pop

@@ -12,7 +12,7 @@ ghost use Rattle.jr_lowering.specs.Emitted.{setting_with, access_is};
 
 use crate::op::Op;
 use crate::size::sum;
-use jr_base::{Cell, ClassId, Elem, FieldId, Memory, ObjId, SlotKind, Value};
+use jr_base::{Cell, ClassId, Elem, FieldId, Memory, ObjId, SlotKind};
 use jr_program::{TypedUnit, TypedVariable};
 
 /// The locals of a method's variables: whether it is static, and how many variables it has.
@@ -43,12 +43,20 @@ impl Locals {
         }
     }
 
+    /// The local that holds the object of the monitor at that depth, behind the variables.
+    pub fn hidden(self, depth: u32) -> Result<u32, Memory>
+        ensures { IfOk result (λ local. local ≡ shift self.is_static + (self.variables + depth)) }
+    {
+        let behind = sum(self.variables, depth)?;
+        self.local(behind)
+    }
+
     /// `this`.
     pub fn this(self) -> Op
         ensures { means result ≡ this_one self.is_static }
     {
         if self.is_static {
-            Op::Push(Value::Null)
+            Op::PushNull
         } else {
             Op::Load(0)
         }

@@ -7,7 +7,7 @@ ghost use Rattle.jr_lowering.specs.Ops.{means};
 use crate::size::sum;
 use jr_arith::{Binary, Unary, Width};
 use jr_base::{
-    Cell, Elem, Fault, Memory, MethodId, NewKind, ObjectCall, Reserved, SlotKind, TextId, Value,
+    Cell, ClassId, Elem, Fault, Memory, MethodId, NewKind, ObjectCall, Reserved, SlotKind, TextId,
 };
 use jr_code::AssertCode;
 use std::alloc::Global;
@@ -16,7 +16,12 @@ use std::marker::Model;
 /// An instruction: what it pushes, which local, place or target it names, or what it does.
 #[derive(Drop)]
 pub enum Op {
-    Push(Value),
+    PushInt(i32),
+    PushLong(i64),
+    PushTruth(bool),
+    PushNull,
+    /// The class object of a class.
+    PushClass(ClassId),
     Load(u32),
     Store(u32),
     Pop,
@@ -76,6 +81,11 @@ impl Emitted {
         Emitted {
             ops: Vec::new(alloc),
         }
+    }
+
+    /// The allocator that the instructions take their room from.
+    pub fn allocator(&self) -> Global {
+        *self.ops.allocator()
     }
 
     /// Adds an instruction at that place, and answers the place behind it.
