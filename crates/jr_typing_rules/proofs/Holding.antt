@@ -41,6 +41,12 @@ holds-along I step keeps before s i (x ∷ xs) =
     let rest = holds-along I step keeps (before ++ x ∷ []) t j xs in
     rw (append_assoc before (x ∷ []) xs) at rest
 
+pub same-good : {A : Type 0} (x y : A) → Good x ≡ Good y → x ≡ y
+same-good x y e = cc
+
+pub same-some : {A : Type 0} (x y : A) → Some x ≡ Some y → x ≡ y
+same-some x y e = cc
+
 -- ---- of each item of a list
 
 abbrev pub Each : {A : Type 0} → (A → Type 0) → List A → Type 0

@@ -29,12 +29,12 @@ abbrev pub MainIn : List unit.Method → Option MethodId → Type 0
 MainIn ts None = Unit {0}
 MainIn ts (Some m) = (t : unit.Method) × (slice_get ts m.0 ≡ Some t) × (looks_like_main t ≡ true)
 
-get-append : {A : Type 0} (xs ys : List A) (k : ℕ) (x : A) → slice_get xs k ≡ Some x → slice_get (xs ++ ys) k ≡ Some x
+pub get-append : {A : Type 0} (xs ys : List A) (k : ℕ) (x : A) → slice_get xs k ≡ Some x → slice_get (xs ++ ys) k ≡ Some x
 get-append [] ys k x e = cc
 get-append (y ∷ xs) ys zero x e = e
 get-append (y ∷ xs) ys (suc k) x e = get-append xs ys k x e
 
-get-last : {A : Type 0} (xs : List A) (y : A) → slice_get (xs ++ y ∷ []) (length xs) ≡ Some y
+pub get-last : {A : Type 0} (xs : List A) (y : A) → slice_get (xs ++ y ∷ []) (length xs) ≡ Some y
 get-last [] y = refl
 get-last (x ∷ xs) y = get-last xs y
 
@@ -73,7 +73,7 @@ pub record FieldsKnown (start : Known) (before : List FieldDeclarator) (s : Know
   pub entries : EntriesBelow s.fields s.class.fields
   pub main : s.main ≡ start.main
 
-entry-added : {A : Type 0} (table : List (Text × A)) (x : Name) (entry : A) → Holds (λ (after : List (Text × A)). after ≡ table ++ (x.text, entry) ∷ []) (and_entry table x entry)
+pub entry-added : {A : Type 0} (table : List (Text × A)) (x : Name) (entry : A) → Holds (λ (after : List (Text × A)). after ≡ table ++ (x.text, entry) ∷ []) (and_entry table x entry)
 unfolding and_entry
 entry-added table x entry = holds-require (λ after. after ≡ table ++ (x.text, entry) ∷ []) (is_none (named x.text table)) _ _ λ new. refl
 

@@ -19,11 +19,9 @@ use Rattle.jr_typing_rules.specs.Resolution.{Resolution, is_void, takes_strings,
 use Rattle.jr_typing_rules.specs.Declarations.{MadeMethod, ClassesMade, is_constructor}
 use Rattle.jr_typing_rules.specs.Whole.{methods_of, program_method, program_of}
 use Rattle.jr_typing_rules.specs.Written.{methods_written_in}
+use Rattle.jr_typing_rules.proofs.Holding.{same-good}
 use Rattle.jr_typing_rules.proofs.Made.{IsMade, MadeFrom, AllMade}
 use Rattle.jr_typing_rules.proofs.Known.{IsKnown, both}
-
-good : {A : Type 0} (x y : A) → Good x ≡ Good y → x ≡ y
-good x y e = cc
 
 -- of each that is written one is made, in the same place
 MadeFrom-get : (program : Resolution) (n : ℕ) (ms : List MadeMethod) (ts : List unit.Method) (k : ℕ) (t : unit.Method) → MadeFrom program n ms ts → slice_get ts k ≡ Some t →
@@ -58,8 +56,8 @@ main-made program m t made looks =
     let result : Good None ≡ Good m.result = rw kind at made.result in
     let here : (program.main.0 == program.main.0) ≡ true = eq-eqb program.main.0 program.main.0 refl in
     let formals : Good [] ≡ Good made.formals.0 = rw here at made.formals.1 in
-    let none : [] ≡ made.formals.0 = good [] made.formals.0 formals in
-    (made.static ∙ facts.1, made.constructor ∙ ap is_constructor kind, made.formals.2 ∙ ap (map kind_of) (sym none), sym (good None m.result result))
+    let none : [] ≡ made.formals.0 = same-good [] made.formals.0 formals in
+    (made.static ∙ facts.1, made.constructor ∙ ap is_constructor kind, made.formals.2 ∙ ap (map kind_of) (sym none), sym (same-good None m.result result))
 
 pub main-fits : (ks : List unit.Class) (resolved : Resolution) (coded : ClassesMade) (all : List Clause) (notes : List Note) →
     IsKnown ks resolved → AllMade resolved ks coded → MainFits (program_of resolved coded all notes)

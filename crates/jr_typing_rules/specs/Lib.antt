@@ -1,13 +1,17 @@
+pub mod Agreement
 pub mod Answers
+pub mod Counts
 pub mod Declarations
 pub mod Denotations
 pub mod Ends
 pub mod Exceptions
 pub mod Expressions
+pub mod Headers
 pub mod Modifiers
 pub mod Names
 pub mod Notes
 pub mod Operators
+pub mod Owners
 pub mod Predicates
 pub mod Resolution
 pub mod Scopes

@@ -4,14 +4,23 @@ ghost use Rattle.std.specs.Prelude.{◌≡◌, ◌≤◌, List, length, map, Som
 ghost use Rattle.std.specs.List.{flat_map};
 ghost use Rattle.jr_base.specs.declared.number.Span.{Span};
 ghost use Rattle.jr_base.specs.declared.number.Position.{Position};
+ghost use Rattle.jr_base.specs.declared.number.ClassId.{ClassId};
+ghost use Rattle.jr_base.specs.declared.number.FieldId.{FieldId};
 ghost use Rattle.jr_base.specs.declared.number.MethodId.{MethodId};
+ghost use Rattle.jr_base.specs.declared.number.ClauseId.{ClauseId};
 ghost use Rattle.jr_program.specs.declared.words.Site.{Site};
 ghost use Rattle.jr_program.specs.Clauses.{Clause};
-ghost use Rattle.jr_program.specs.Programs.{Program, Method, method_at};
+ghost use Rattle.jr_program.specs.Programs as parts;
+ghost use Rattle.jr_program.specs.Programs.{Program, Field, Method, class_at, field_at, method_at, clause_at};
 ghost use Rattle.jr_program.specs.Sites.{due_at_site};
-ghost use Rattle.jr_program.specs.WellFormed.{MainFits, EndsAsItMust, most_due};
+ghost use Rattle.jr_program.specs.WellFormed.{MainFits, ClassFits, FieldFits, EndsAsItMust, most_due};
 ghost use Rattle.jr_ast.specs.Units.{Class};
 ghost use Rattle.jr_typing_rules.specs.Answers.{Good};
+ghost use Rattle.jr_typing_rules.specs.Resolution.{Resolution, resolve};
+ghost use Rattle.jr_typing_rules.specs.Agreement.{AgreesWith};
+ghost use Rattle.jr_typing_rules.specs.Headers.{HeaderFits};
+ghost use Rattle.jr_typing_rules.specs.Owners.{MayOwn};
+ghost use Rattle.jr_typing_rules.specs.Counts.{IsCounted};
 ghost use Rattle.jr_typing_rules.specs.Whole.{typing};
 ghost use Rattle.jr_typing_rules.specs.Written.{keywords_in};
 
@@ -37,4 +46,44 @@ pub fn clauses_are_in_order()
 pub fn bodies_end()
     ensures { (position : Span → Position) (classes : List Class) (program : Program) → typing position classes ≡ Good program →
         (m : MethodId) (method : Method) → method_at program m ≡ Some method → EndsAsItMust method.body method.result }
+{}
+
+/// The names of an accepted source agree with its program: each entry of a class's tables is the field, the method or
+/// the constructor of its number, with its class, whether it is static, and the kinds of its types, which speak of classes
+/// of the program.
+pub fn names_agree()
+    ensures { (position : Span → Position) (classes : List Class) (names : Resolution) (program : Program) →
+        resolve classes ≡ Good names → typing position classes ≡ Good program → AgreesWith names.names program }
+{}
+
+/// A field of an accepted source is one of its classes', and its constant has the kind of its type (JLS 8.3, 15.28).
+pub fn fields_fit()
+    ensures { (position : Span → Position) (classes : List Class) (program : Program) → typing position classes ≡ Good program →
+        (f : FieldId) (field : Field) → field_at program f ≡ Some field → FieldFits program field }
+{}
+
+/// A class of an accepted source has the `run` that a thread runs, where one does, and a constructor of its own, if any
+/// (JLS 8.8, 17.1).
+pub fn classes_fit()
+    ensures { (position : Span → Position) (classes : List Class) (program : Program) → typing position classes ≡ Good program →
+        (c : ClassId) (class : parts.Class) → class_at program c ≡ Some class → ClassFits program c class }
+{}
+
+/// What a method of an accepted source declares fits the program: its class, its formals, its result, and whether it
+/// constructs (JLS 8.4, 8.8).
+pub fn headers_fit()
+    ensures { (position : Span → Position) (classes : List Class) (program : Program) → typing position classes ≡ Good program →
+        (m : MethodId) (method : Method) → method_at program m ≡ Some method → HeaderFits program m method }
+{}
+
+/// What a clause of an accepted source belongs to is in the program, of the sort that its kind asks, and static where the
+/// clause is.
+pub fn clauses_are_owned()
+    ensures { (position : Span → Position) (classes : List Class) (program : Program) → typing position classes ≡ Good program →
+        (c : ClauseId) (clause : Clause) → clause_at program c ≡ Some clause → MayOwn program clause.kind clause.is_static clause.owner }
+{}
+
+/// A program has as many classes, fields, methods and clauses as its source writes.
+pub fn members_are_counted()
+    ensures { (position : Span → Position) (classes : List Class) (program : Program) → typing position classes ≡ Good program → IsCounted classes program }
 {}
