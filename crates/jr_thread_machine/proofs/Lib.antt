@@ -1,0 +1,12 @@
+pub mod Operators
+pub mod Places
+pub mod Replies
+pub mod Resuming
+pub mod Rows
+pub mod Runs
+pub mod Seeking
+pub mod Stacks
+pub mod Stepping
+pub mod Tables
+pub mod Turns
+pub mod Waiting

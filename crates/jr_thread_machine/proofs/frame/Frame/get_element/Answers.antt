@@ -1,0 +1,10 @@
+use Rattle.jr_code.specs.Instructions.{GetElement}
+use Rattle.jr_code.specs.Views.{tables_of}
+use Rattle.jr_thread_machine.proofs.Tables.{as_row, entry_at, mapped_ok}
+use Rattle.jr_thread_machine.proofs.frame.Frame.get_element.Goals as goal
+
+pub returns-in-Some-clause-ok : goal.returns-in-Some-clause-ok
+returns-in-Some-clause-ok c =
+    mapped_ok _ _ c.read_element.result
+    (λ flow s plain. as_row plain _ _ flow _ _ (entry_at GetElement (tables_of c.args.code.now).elems c.args.place c.in-Some._element.now c.in-Some.ensures) (s plain c.in-Some._element.now))
+    c.read_element.ensures.ok

@@ -1,0 +1,8 @@
+use Rattle.std.proofs.Common.{◌≡◌, ◌++◌, map, take}
+use Rattle.jr_base.specs.Content.{Holds}
+use Rattle.jr_code.specs.Machine.{value_of_content}
+use Rattle.jr_thread_machine.proofs.locals.Locals.push_values.Given as goal
+
+-- the values so far
+abbrev pub invariant-loop-slot : goal.invariant-loop-slot
+invariant-loop-slot l = l.self ≡ l.initial.self ++ map Holds (map value_of_content (take l.slot-index l.slots))

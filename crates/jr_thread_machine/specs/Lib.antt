@@ -1,0 +1,10 @@
+pub mod Calls
+pub mod Fields
+pub mod Frames
+pub mod Handlers
+pub mod Moves
+pub mod Places
+pub mod Runs
+pub mod Slots
+pub mod Stages
+pub mod Steps
