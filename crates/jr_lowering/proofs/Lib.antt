@@ -1,11 +1,14 @@
 pub mod Effects
 pub mod Emits
+pub mod Encodes
 mod Example
 pub mod Exits
 pub mod Expressions
 pub mod Follow
 pub mod Growing
+pub mod Larger
 pub mod Locals
+pub mod Methods
 pub mod Operands
 pub mod Parts
 pub mod Places

@@ -83,6 +83,13 @@ impl Emitted {
         }
     }
 
+    /// The instructions.
+    pub fn ops(&self) -> &[Op]
+        ensures { map means result.now ≡ self.now }
+    {
+        self.ops.as_slice()
+    }
+
     /// The allocator that the instructions take their room from.
     pub fn allocator(&self) -> Global {
         *self.ops.allocator()
