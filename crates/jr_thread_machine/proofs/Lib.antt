@@ -6,7 +6,9 @@ pub mod Rows
 pub mod Runs
 pub mod Seeking
 pub mod Stacks
+pub mod Standing
 pub mod Stepping
 pub mod Tables
+pub mod Turning
 pub mod Turns
 pub mod Waiting

@@ -128,7 +128,7 @@ leaves code left f below monitor e fits = record { becomes = left_as code left f
 
 -- ---- a call that begins
 
-called_as : (code : Code) (a : Arguments) (m : MethodId) (this : Option ObjId) (values : List Value) (locals : List Content) (below : List StackFrame) (monitor : Option ObjId) →
+pub called_as : (code : Code) (a : Arguments) (m : MethodId) (this : Option ObjId) (values : List Value) (locals : List Content) (below : List StackFrame) (monitor : Option ObjId) →
     arguments_in a locals ≡ values →
     Becomes code (Goes (enter_then monitor (Makes (deeds.Call m this values) (Runs (stack_frame m this 0 [] locals) below))))
     (stage_move code (called_stage monitor a) (stack_frame m this 0 [] locals) below)
@@ -137,7 +137,7 @@ called_as code a m this values locals below None e =
 called_as code a m this values locals below (Some o) e =
     rw (← e) (makes code (deeds.Enter o ways.Method) (Makes (deeds.Call m this (arguments_in a locals)) (Runs (stack_frame m this 0 [] locals) below)))
 
-called_fits : (code : Code) (a : Arguments) (f : StackFrame) (monitor : Option ObjId) → IsReached code f.method f.at → StageFits code (called_stage monitor a) f
+pub called_fits : (code : Code) (a : Arguments) (f : StackFrame) (monitor : Option ObjId) → IsReached code f.method f.at → StageFits code (called_stage monitor a) f
 called_fits code a f None h = h
 called_fits code a f (Some o) h = h
 

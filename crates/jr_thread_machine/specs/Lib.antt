@@ -2,9 +2,12 @@ pub mod Calls
 pub mod Fields
 pub mod Frames
 pub mod Handlers
+pub mod Machines
 pub mod Moves
 pub mod Places
 pub mod Runs
+pub mod Saying
 pub mod Slots
 pub mod Stages
+pub mod Standing
 pub mod Steps

@@ -1,9 +1,8 @@
-//! Runs a call of stack code up to where it doesn't go on by itself, and goes on with what a reply, another call or an
-//! exception makes of it. Its one promise: what the call comes to (an action that it asks for, another call, its end, or
-//! an exception that no handler of it takes) is what the definition of stack code comes to from there, and in checked
-//! code it comes there after finitely many instructions. The definitions stand in `specs/`: `Moves.antt` has what an
-//! instruction comes to, as a move of its code, `Handlers.antt` what takes an exception, `Steps.antt` what running a
-//! call is, `Calls.antt` how one begins, `Stages.antt` what a thread stands before.
+//! Runs one thread of a program from action to action. Its one promise: what `Machine::next` answers is the thread's next
+//! action as the program's definition has it (`next` of jr_meaning), or that it has ended, after the replies that
+//! `Machine::resume` was given. The definitions stand in `specs/`: `Standing.antt` has what a machine stands for,
+//! `Stages.antt` what a thread stands before, `Calls.antt` how a call begins, `Steps.antt` what running a call is,
+//! `Handlers.antt` what takes an exception, `Moves.antt` what an instruction comes to, as a move of its code.
 #![tactic(auto)]
 
 mod act;
@@ -15,6 +14,7 @@ mod frame;
 mod handlers;
 mod local_rows;
 mod locals;
+pub mod machine;
 mod run;
 mod slot;
 mod stack;
@@ -22,3 +22,5 @@ mod stage;
 mod table;
 mod table_rows;
 mod text_rows;
+
+pub use machine::{Machine, Next};
