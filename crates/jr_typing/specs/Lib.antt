@@ -1,0 +1,3 @@
+pub mod Operated
+pub mod Paired
+pub mod Views
