@@ -75,13 +75,19 @@ drop_front (x ∷ xs) ys = drop_front xs ys
 pub method_is : (t : Tables) (m : MethodOfLists) (formals others : List SlotKind) (is : List Instruction) (rs : List Region) →
     m.formals.items ≡ formals → m.locals.items ≡ (this_kind m.is_static ++ formals) ++ others → map (plain t) m.instrs.items ≡ is →
     map region_of m.regions.items ≡ rs → method_of t m ≡ record {
-      class = m.class; is_static = m.is_static; is_synchronized = m.is_synchronized; formals = formals; result = m.result;
-      locals = others; instructions = is; regions = rs
+      class = m.class;
+      is_static = m.is_static;
+      is_synchronized = m.is_synchronized;
+      formals = formals;
+      result = m.result;
+      locals = others;
+      instructions = is;
+      regions = rs;
     }
 method_is t m formals others is rs f l i r =
     let behind : drop (length (this_kind m.is_static ++ m.formals.items)) m.locals.items ≡ others =
-        ap (λ k. drop (length (this_kind m.is_static ++ k)) m.locals.items) f
-        ∙ ap (drop (length (this_kind m.is_static ++ formals))) l ∙ drop_front (this_kind m.is_static ++ formals) others in
+    ap (λ k. drop (length (this_kind m.is_static ++ k)) m.locals.items) f
+    ∙ ap (drop (length (this_kind m.is_static ++ formals))) l ∙ drop_front (this_kind m.is_static ++ formals) others in
     ap (λ k. record (method_of t m) { formals = k }) f
     ∙ ap (λ k. record (method_of t m) { formals = formals; locals = k }) behind
     ∙ ap (λ k. record (method_of t m) { formals = formals; locals = others; instructions = k }) i
@@ -96,9 +102,9 @@ pub next_method : (program : Program) (a b : CodeOfLists) (new : Spare MethodOfL
 next_method program a b new n m x k all at e known begin more =
     subst (AreMethods (tables_of b) new.items) (sym (taken (method_code program) program.methods n x at))
     (subst (λ l. AreMethods (tables_of b) l (map (method_code program) (take n program.methods) ++ method_code program x ∷ []))
-        (sym (more ∙ ap (λ l. l ++ m ∷ []) k.methods))
+    (sym (more ∙ ap (λ l. l ++ m ∷ []) k.methods))
     (one_more (tables_of a) (tables_of b) a.methods.items (map (method_code program) (take n program.methods)) m (method_code program x)
-        k.grows all e known begin))
+    k.grows all e known begin))
 
 begins_at : (ms : List MethodOfLists) → AllBegin ms → (at : ℕ) (m : MethodOfLists) → slice_get ms at ≡ Some m → LocalsBegin m
 begins_at [] k at m e = absurd (cc)

@@ -66,11 +66,7 @@ fn stage_of(stop: Stop) -> Stage
 }
 
 /// The monitor that a call takes (JLS 8.4.3.6). `Memory` where the number of the class's object doesn't fit.
-fn monitor(
-    code: &Code,
-    method: MethodId,
-    this: Option<ObjId>,
-) -> Result<Option<ObjId>, Memory>
+fn monitor(code: &Code, method: MethodId, this: Option<ObjId>) -> Result<Option<ObjId>, Memory>
     ensures { IfOk result (λ monitor. monitor ≡ monitor_in (method_code_at (plain_of code.now) method) this) }
 {
     match item_at(&code.methods, method.0) {
@@ -238,7 +234,9 @@ impl Machine {
             unreachable!();
         };
         let monitor = monitor(code, method, this)?;
-        let arguments = self.callers.enter(alloc, &mut self.top, method, this, callee)?;
+        let arguments = self
+            .callers
+            .enter(alloc, &mut self.top, method, this, callee)?;
         self.stage = called(monitor, arguments);
         Ok(())
     }

@@ -295,7 +295,11 @@ fn expr_of(alloc: Global, source: &[u8]) -> Result<Expr, Memory> {
             Some([_, letter, ..]) => *letter,
             _ => b' ',
         };
-        reader.read(*token, spelled(&[letter]), place.min(u32::MAX as usize) as u32)?;
+        reader.read(
+            *token,
+            spelled(&[letter]),
+            place.min(u32::MAX as usize) as u32,
+        )?;
     }
     reader.pop()
 }

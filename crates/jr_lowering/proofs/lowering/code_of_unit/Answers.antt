@@ -15,6 +15,6 @@ pub returns-clause-well_formed : goal.returns-clause-well_formed
 returns-clause-well_formed c =
     let program = program_of c.args.unit.now in
     let all : length (map view_method c.args.unit.now.methods) ≤ c.loop-number.number =
-        omega (arith, length-map c.args.unit.now.methods view_method, c.method_count-number-end.ensures, c.loop-number-test.false) in
+    omega (arith, length-map c.args.unit.now.methods view_method, c.method_count-number-end.ensures, c.loop-number-test.false) in
     whole_is_right program c.well_formed-2.ensures c.loop-number.code (map (method_code program) (take c.loop-number.number program.methods))
     c.loop-number.invariant (whole program c.loop-number.code c.loop-number.number all c.loop-number.invariant)

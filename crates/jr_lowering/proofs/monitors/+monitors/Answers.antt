@@ -8,7 +8,7 @@ pub monitors_of_catches-loop-one-preserved : goal.monitors_of_catches-loop-one-p
 monitors_of_catches-loop-one-preserved t c =
     let rest = monitors_in_all (catches (map view_catch (drop (c.loop-one.one-index + 1) c.args.all.now))) in
     let inside : c.in_ok-monitors_of.field-0 ≡ monitors_in (view_catch c.one-item.result).handler =
-        c.in_ok-monitors_of.ensures ∙ ap monitors_in (sym (handler_of c.one-item.result)) in
+    c.in_ok-monitors_of.ensures ∙ ap monitors_in (sym (handler_of c.one-item.result)) in
     ap (λ m. larger m rest) c.larger-most.ensures
     ∙ ap (λ n. larger (larger c.loop-one.most n) rest) inside
     ∙ catches_on c.args.all.now c.loop-one.one-index c.loop-one.most c.one-item.result c.loop-one-test.true c.one-item.is
