@@ -90,7 +90,8 @@ impl Emitted {
         self.ops.as_slice()
     }
 
-    /// The allocator that the instructions take their room from.
+    /// The allocator that the instructions take their room from. It has no clause, since contracts don't tell allocators
+    /// apart.
     pub fn allocator(&self) -> Global {
         *self.ops.allocator()
     }
