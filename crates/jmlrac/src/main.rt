@@ -5,8 +5,8 @@
 ghost use Rattle.std.specs.Prelude.{◌≡◌, ◌≢◌, [], IfSome, IsSome, IsSomeAnd};
 ghost use Rattle.jr_io.specs.Faults.{Rose};
 ghost use Rattle.jr_io.specs.StdSink.{held_back};
-ghost use Rattle.jr_ast.specs.Programs.{program_of};
-ghost use Rattle.jr_journal.specs.FirstForm.Right.{IsRightRecord};
+ghost use Rattle.jr_first_journal.specs.Programs.{program_of};
+ghost use Rattle.jr_first_journal.specs.FirstForm.Right.{IsRightRecord};
 ghost use Rattle.jr_cli.specs.Command.{line};
 ghost use Rattle.jr_cli.specs.Causes.{budget_of};
 ghost use Rattle.jr_cli.specs.Ends.{IsStatus};

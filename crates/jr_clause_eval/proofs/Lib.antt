@@ -1,3 +1,4 @@
+pub mod ClassesNamed
 pub mod Conditions
 pub mod Instances
 pub mod Lists

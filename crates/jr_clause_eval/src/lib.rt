@@ -7,6 +7,7 @@
 mod clause;
 mod expr;
 mod heaps;
+pub mod laws;
 mod outcome;
 mod range;
 mod scene;

@@ -1,7 +1,7 @@
 -- A source that is read to its end and spells a program is run, if there is memory.
 use Rattle.std.proofs.Common.{◌≡◌, ◌⊎◌, ℕ, true, false, List, Option, Some, None, IsSome, IsNone, IsSomeAnd, refl, sym, subst, ◌∙◌, inl, inr}
 use Rattle.jr_base.specs.declared.refusal.Refusal.{Refusal}
-use Rattle.jr_ast.specs.Programs.{Program, program_of}
+use Rattle.jr_first_journal.specs.Programs.{Program, program_of}
 use Rattle.jr_cli.specs.declared.words.Command.{Command}
 use Rattle.jr_cli.specs.declared.outcome.Outcome.{Outcome}
 use Rattle.jr_cli.specs.declared.outcome.Outcome.TheVariants.{Usage, ReadFault, Refused, OutOfMemory, Ran}

@@ -9,7 +9,7 @@ use Rattle.jr_lexer.specs.Lexical.{tokens}
 use Rattle.jr_lexer.specs.Answers.{Answers}
 use Rattle.jr_lexer.specs.Refusals.{is_lexical, RefusesLexically}
 use Rattle.jr_lexer.proofs.Refused.{of_tokens}
-use Rattle.jr_ast.specs.Programs.{Program}
+use Rattle.jr_first_journal.specs.Programs.{Program}
 use Rattle.jr_ast.specs.Units.{Class}
 use Rattle.jr_unit_parser.specs.Grammar.{SpellsUnit}
 use Rattle.jr_unit_parser.specs.Answers.{Fits, Refuses, Answers as AnswersUnit}

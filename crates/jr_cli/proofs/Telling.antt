@@ -1,8 +1,8 @@
 -- What has its cause can be told.
 use Rattle.std.proofs.Common.{ℕ, sym, subst, Option, Some, None}
-use Rattle.jr_journal.specs.declared.journal.RunRecord.{RunRecord}
-use Rattle.jr_ast.specs.Programs.{Program, program_of}
-use Rattle.jr_journal.specs.FirstForm.Right.{IsRightRecord}
+use Rattle.jr_first_journal.specs.declared.journal.RunRecord.{RunRecord}
+use Rattle.jr_first_journal.specs.Programs.{Program, program_of}
+use Rattle.jr_first_journal.specs.FirstForm.Right.{IsRightRecord}
 use Rattle.jr_cli.specs.declared.words.Command.{Command}
 use Rattle.jr_cli.specs.declared.outcome.Outcome.{Outcome}
 use Rattle.jr_cli.specs.declared.outcome.Outcome.TheVariants.{Usage, ReadFault, Refused, OutOfMemory, Ran}

@@ -2,9 +2,9 @@
 use Rattle.std.specs.Prelude.{◌≡◌, ◌+◌, ◌<◌, ◌≤◌, ℕ, Bool, true, false, List, length, Option, Some, None, IsSome, IfSome, IsSomeAnd}
 use Rattle.jr_base.specs.declared.refusal.Refusal.{Refusal}
 use Rattle.jr_base.specs.declared.refusal.Refusal.TheVariants.{TooLong}
-use Rattle.jr_ast.specs.Programs.{program_of}
+use Rattle.jr_first_journal.specs.Programs.{program_of}
 use Rattle.jr_io.specs.Faults.{Rose}
-use Rattle.jr_journal.specs.FirstForm.Right.{IsRightRecord}
+use Rattle.jr_first_journal.specs.FirstForm.Right.{IsRightRecord}
 use Rattle.jr_cli.specs.declared.words.Command.{Command}
 use Rattle.jr_cli.specs.declared.words.Command.TheVariants.{RunSerial}
 use Rattle.jr_cli.specs.declared.outcome.Outcome.{Outcome}

@@ -3,12 +3,12 @@ use Rattle.std.specs.Prelude.{◌≡◌, ◌==◌, ◌⊎◌, ℕ, cond, List, [
 use Rattle.jr_io.specs.declared.sink.Piece.TheVariants.{Whole, WriteFault}
 use Rattle.jr_io.specs.Writes.{WritesPiece}
 use Rattle.jr_base.specs.declared.refusal.Refusal.{Refusal}
-use Rattle.jr_ast.specs.Programs.{Program, program_of}
+use Rattle.jr_first_journal.specs.Programs.{Program, program_of}
 use Rattle.jr_cli.specs.declared.words.Command.{Command}
 use Rattle.jr_cli.specs.declared.outcome.Outcome.{Outcome}
 use Rattle.jr_cli.specs.declared.ended.Ended.{Ended}
 use Rattle.jr_cli.specs.Causes.{Reading, Refuses, HasCause, RefusesTooLong, CountsReading}
-use Rattle.jr_report.specs.Refusals.{refusal_line}
+use Rattle.jr_first_report.specs.Refusals.{refusal_line}
 use Rattle.jr_cli.specs.Texts.{Tells}
 
 -- a count before and after a call

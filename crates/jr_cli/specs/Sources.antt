@@ -7,8 +7,8 @@ use Rattle.jr_base.specs.declared.refusal.Fail.TheVariants.{Refused, Memory}
 use Rattle.jr_lexer.specs.Token.{Token}
 use Rattle.jr_lexer.specs.Lexical.{tokens}
 use Rattle.jr_lexer.specs.Refusals.{is_lexical}
-use Rattle.jr_ast.specs.declared.typed.TypedUnit.{TypedUnit}
-use Rattle.jr_ast.specs.Programs.{Program, program_of}
+use Rattle.jr_first_journal.specs.declared.typed.TypedUnit.{TypedUnit}
+use Rattle.jr_first_journal.specs.Programs.{Program, program_of}
 use Rattle.jr_ast.specs.Units.{Class}
 use Rattle.jr_unit_parser.specs.Answers.{Fits, Refuses}
 use Rattle.jr_first_path.specs.Form.{form_of, OfProgram, WithoutMain, Outside}

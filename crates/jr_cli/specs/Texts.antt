@@ -5,17 +5,17 @@ use Rattle.jr_base.specs.declared.finish.Finish.TheVariants.{Finished, Deadlock,
 use Rattle.jr_io.specs.declared.sink.Piece.{Piece}
 use Rattle.jr_io.specs.declared.sink.Piece.TheVariants.{Whole, WriteFault}
 use Rattle.jr_io.specs.Writes.{WritesPiece, CountsPieceFault}
-use Rattle.jr_journal.specs.declared.journal.RunRecord.{RunRecord}
-use Rattle.jr_journal.specs.Event.{Event}
-use Rattle.jr_journal.specs.FirstForm.Right.{IsRightRecord}
-use Rattle.jr_report.specs.Report.{report, bytes_of_lines, violations_in, uncaught_in}
+use Rattle.jr_first_journal.specs.declared.journal.RunRecord.{RunRecord}
+use Rattle.jr_first_journal.specs.Event.{Event}
+use Rattle.jr_first_journal.specs.FirstForm.Right.{IsRightRecord}
+use Rattle.jr_first_report.specs.Report.{report, bytes_of_lines, violations_in, uncaught_in}
 use Rattle.jr_cli.specs.declared.outcome.Outcome.{Outcome}
 use Rattle.jr_cli.specs.declared.outcome.Outcome.TheVariants.{Usage, ReadFault, Refused, OutOfMemory, Ran}
 use Rattle.jr_cli.specs.declared.ended.Ended.{Ended}
 use Rattle.jr_cli.specs.Causes.{refusal_in}
-use Rattle.jr_journal.specs.FirstForm.Layout.{FollowTheirSteps}
-use Rattle.jr_report.specs.Refusals.{refusal_line}
-use Rattle.jr_ast.specs.Programs.{program_of}
+use Rattle.jr_first_journal.specs.FirstForm.Layout.{FollowTheirSteps}
+use Rattle.jr_first_report.specs.Refusals.{refusal_line}
+use Rattle.jr_first_journal.specs.Programs.{program_of}
 
 -- in the journal of a run each step's verdicts stand directly behind it
 abbrev pub IsLaidOut : Outcome → Type 0

@@ -2,14 +2,14 @@
 
 ghost use Rattle.std.specs.Prelude.{◌≡◌, ◌≤◌};
 ghost use Rattle.jr_io.specs.Writes.{WritesPiece, CountsPieceFault};
-ghost use Rattle.jr_journal.specs.FirstForm.Right.{IsRightRecord};
+ghost use Rattle.jr_first_journal.specs.FirstForm.Right.{IsRightRecord};
 ghost use Rattle.jr_cli.specs.Texts.{IsTellable, text_of, status_of, run_status, Tells};
 
 use crate::outcome::Outcome;
 use jr_base::{Finish, Refusal};
+use jr_first_journal::RunRecord;
+use jr_first_report::{count_all, write_refusal, write_report};
 use jr_io::{Piece, Sink, write_piece};
-use jr_journal::RunRecord;
-use jr_report::{count_all, write_refusal, write_report};
 
 /// How a call ended.
 #[derive(Drop)]

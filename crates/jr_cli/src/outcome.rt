@@ -8,9 +8,9 @@ ghost use Rattle.jr_cli.specs.Texts.{IsLaidOut};
 use crate::source::program_of_source;
 use crate::words::{Command, Words};
 use jr_base::{Fail, Refusal};
-use jr_drive::drive;
+use jr_first_drive::drive;
+use jr_first_journal::RunRecord;
 use jr_io::{ReadFail, Source, read_all};
-use jr_journal::RunRecord;
 use std::alloc::Global;
 
 /// The most bytes that a source may have.

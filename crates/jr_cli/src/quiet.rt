@@ -3,12 +3,12 @@
 ghost use Rattle.std.specs.Prelude.{◌≡◌, ◌≢◌, ◌⊎◌, ◌+◌, ◌<◌, ℕ, List, true, IsSome, IsNone, IfSome, IsSomeAnd, None, Some};
 ghost use Rattle.jr_io.specs.Faults.{Rose};
 ghost use Rattle.jr_base.specs.declared.refusal.Refusal.TheVariants as refusals;
-ghost use Rattle.jr_journal.specs.FirstForm.Right.{IsRightRecord};
+ghost use Rattle.jr_first_journal.specs.FirstForm.Right.{IsRightRecord};
 ghost use Rattle.jr_cli.specs.Command.{line};
 ghost use Rattle.jr_cli.specs.Causes.{ReadWhole, budget_of};
 ghost use Rattle.jr_cli.specs.Sources.{Spells};
 ghost use Rattle.jr_cli.specs.Ends.{Ends, IsStatus, IsWritten, IsRefusal, Runs, HadNoMemory};
-ghost use Rattle.jr_ast.specs.Programs.{Program, program_of};
+ghost use Rattle.jr_first_journal.specs.Programs.{Program, program_of};
 ghost use Rattle.jr_cli.specs.Texts.{report_text, run_status};
 
 use crate::ended::{Ended, tell};

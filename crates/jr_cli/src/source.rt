@@ -3,8 +3,8 @@
 ghost use Rattle.std.specs.Prelude.{ℕ, ◌≤◌, List, length};
 ghost use Rattle.jr_cli.specs.Sources.{Reads, IsOneMeaning};
 
-use jr_ast::TypedUnit;
 use jr_base::Fail;
+use jr_first_journal::TypedUnit;
 use jr_first_path::first_path;
 use jr_lexer::lex;
 use jr_unit_parser::parse;

@@ -2,8 +2,8 @@
 
 use super::*;
 use jr_base::{Action, Finish};
+use jr_first_journal::{Entry, RunRecord};
 use jr_io::{MemSink, MemSource};
-use jr_journal::{Entry, RunRecord};
 use std::alloc::Global;
 use std::process::Abort;
 use std::test::Fail;

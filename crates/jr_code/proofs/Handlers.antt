@@ -15,7 +15,7 @@ use Rattle.jr_code.specs.Coded.{plain}
 use Rattle.jr_code.specs.Paths.{HandledAt, Reaches, Catches}
 use Rattle.jr_code.specs.Views.{tables_of, plain_of, region_of, kind_of_region}
 use Rattle.jr_code.specs.WellFormed.{plain_method, BreaksRule, Rule, Handler}
-use Rattle.jr_code.specs.Verifier.{OnPaths, CatchDone, Caught, Woken, Untouched, IsTouched, Extends, SettledBelow, SweptTo, Pending, rounds, lower_of}
+use Rattle.jr_code.specs.Verifier.{OnPaths, CatchDone, Caught, Woken, IsKnown, Untouched, IsTouched, Extends, SettledBelow, SweptTo, Pending, rounds, lower_of}
 use Rattle.jr_code.proofs.Growth.{unchanged, from_lower, then_extends, settled_stays}
 use Rattle.jr_code.proofs.Leaving.{before_or_there, at_most_or_above}
 
@@ -40,6 +40,10 @@ same_some a b e = cc
 ⊎_swap : {A B : Type 0} → A ⊎ B → B ⊎ A
 ⊎_swap (inl a) = inr a
 ⊎_swap (inr b) = inl b
+
+pub untouched_more : (shapes : List (Option (List SlotKind))) (from at : ℕ) → Untouched shapes from at → (IsKnown shapes at → ⊥) → Untouched shapes from (at + 1)
+untouched_more shapes from at none unknown k ks low high e =
+    ⊎_elim (λ (l : k < at). none k ks low l e) (λ (q : k ≡ at). unknown (ks, subst (λ k. slice_get shapes k ≡ Some (Some ks)) q e)) (before_or_there k at high)
 
 -- a handler that is right where all that reaches the region stands before it
 pub done : (code : CodeOfLists) (m : MethodOfLists) (shapes : List (Option (List SlotKind))) (n : ℕ) (r : RegionOfLists) (fault : Fault) →

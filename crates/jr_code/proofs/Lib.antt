@@ -11,6 +11,7 @@ pub mod Handlers
 pub mod Leaving
 pub mod Methods
 pub mod Paths
+pub mod Places
 pub mod Rows
 pub mod Safe
 pub mod Stopping

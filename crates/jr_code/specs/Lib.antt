@@ -8,6 +8,7 @@ pub mod Letters
 pub mod Machine
 pub mod Paths
 pub mod Resumed
+pub mod Shapes
 pub mod Sound
 pub mod Told
 pub mod Verifier

@@ -74,6 +74,14 @@ HasArrived old at ks new First = (slice_get old at ≡ Some None) × (new ≡ sl
 HasArrived old at ks new Same = (slice_get old at ≡ Some (Some ks)) × (new ≡ old)
 HasArrived old at ks new Other = (there : List SlotKind) × (slice_get old at ≡ Some (Some there)) × (there ≢ ks) × (new ≡ old)
 
+-- the kinds at a place are these, or it has none
+abbrev pub HasRead : List (Option (List SlotKind)) → ℕ → List SlotKind → Bool → Type 0
+HasRead shapes at ks true = slice_get shapes at ≡ Some (Some ks)
+HasRead shapes at ks false = slice_get shapes at ≡ Some None
+
+abbrev pub IsKnown : List (Option (List SlotKind)) → ℕ → Type 0
+IsKnown shapes at = (ks : List SlotKind) × (slice_get shapes at ≡ Some (Some ks))
+
 -- kinds that stand at places stay there
 abbrev pub Grown : List (Option (List SlotKind)) → List (Option (List SlotKind)) → Type 0
 Grown old new = (at : ℕ) (ks : List SlotKind) → slice_get old at ≡ Some (Some ks) → slice_get new at ≡ Some (Some ks)

@@ -1,6 +1,6 @@
 //! The verifier of code.
 
-ghost use Rattle.std.specs.Prelude.{◌≡◌, ◌≢◌, ◌<◌, ◌↔◌, ℕ, [], IsTrue, IfOk, IfErr, OnOk, MatchOption, Some, length, slice_get, vec_len};
+ghost use Rattle.std.specs.Prelude.{◌≡◌, ◌≢◌, ◌<◌, ◌↔◌, ℕ, [], IsTrue, IfOk, IfErr, OnOk, MatchOption, Some, length, slice_get};
 ghost use Rattle.jr_base.specs.declared.kind.SlotKind.TheVariants.{Ref as Reference, Caught};
 ghost use Rattle.jr_code.specs.Depth.{IsDepth, IsDepthOf};
 ghost use Rattle.jr_code.specs.Verifier.{OnPaths, ExitsRight, ExitWrong, Tells};
@@ -10,7 +10,7 @@ ghost use Rattle.jr_code.specs.WellFormed.{LocalsBegin, WellFormedMethod, WellFo
 
 use crate::code::{Code, MethodCode, RegionKind};
 use crate::kinds::{Kinds, are_values};
-use crate::shapes::{Stop, deepest, no_shapes};
+use crate::shapes::{Shapes, Stop};
 use crate::verifier::{reach, settle};
 use jr_base::{MethodId, SlotKind};
 use std::alloc::{AllocError, Global};
@@ -55,15 +55,16 @@ fn wrong_exit(method: &MethodCode) -> Option<u32>
 }
 
 // No operand stands at the first instruction, and no path is known to the others.
-fn first_shapes(alloc: Global, code: &Code, method: &MethodCode) -> Result<Vec<Option<Kinds>>, Stop>
+fn first_shapes(alloc: Global, code: &Code, method: &MethodCode) -> Result<Shapes, Stop>
     requires { 0 < length method.now.instrs.items }
-    ensures sound { IfOk result (λ shapes. OnPaths (plain_of code.now) (plain_method code.now method.now) shapes.items) }
-    ensures size { IfOk result (λ shapes. length shapes.items ≡ length method.now.instrs.items) }
-    ensures begins { IfOk result (λ shapes. slice_get shapes.items 0 ≡ Some (Some [])) }
+    ensures sound { IfOk result (OnPaths (plain_of code.now) (plain_method code.now method.now)) }
+    ensures size { IfOk result (λ shapes. length shapes ≡ length method.now.instrs.items) }
+    ensures begins { IfOk result (λ shapes. slice_get shapes 0 ≡ Some (Some [])) }
     ensures err { IfErr result (Tells code.now method.now) }
 {
-    let mut shapes = no_shapes(alloc, method.instrs.len())?;
-    reach(code, method, &mut shapes, 0, Kinds::new(alloc))?;
+    let mut shapes = Shapes::new(alloc, method.instrs.len())?;
+    let nothing = Kinds::new(alloc);
+    reach(code, method, &mut shapes, 0, &nothing)?;
     Ok(shapes)
 }
 
@@ -99,12 +100,8 @@ fn check_method(alloc: Global, code: &Code, method: &MethodCode) -> Result<u32, 
         return Err(Stop::Broken(0));
     }
     let mut shapes = first_shapes(alloc, code, method)?;
-    settle(code, method, &mut shapes)?;
-    let depth = deepest(&shapes);
-    if depth > u32::MAX as usize {
-        return Err(Stop::Memory);
-    }
-    Ok(depth as u32)
+    settle(alloc, code, method, &mut shapes)?;
+    Ok(shapes.deepest())
 }
 
 /// Why code isn't taken.
@@ -113,7 +110,7 @@ pub enum CheckFail {
     /// A rule is broken at that instruction of that method, or at its place 0 where the rule is one on its formals, its
     /// result, its locals or its regions.
     Bad { method: MethodId, at: u32 },
-    /// There was no memory, or a call of a method would need room for more than `u32::MAX` operands.
+    /// There was no memory, or the operands at all places of a method are together more than `u32::MAX`.
     Memory,
 }
 

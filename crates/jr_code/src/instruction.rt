@@ -89,6 +89,7 @@ macro_rules! instruction_of_part {
 
 impl Instr {
     /// The instruction that this is. None where the number is no row's.
+    #[inline(always)]
     pub fn decode(self) -> Option<Instruction>
         ensures means { IfSome result (λ i. (t : Tables) → meaning t i ≡ plain t self) }
         ensures row { IsSome result ↔ ((1 ≤ self.code) × (self.code ≤ 93)) }
@@ -102,6 +103,7 @@ impl Instr {
         }
     }
 
+    #[inline(always)]
     fn stack_row(self) -> Instruction
         requires first { 1 ≤ self.code }
         requires last { self.code ≤ 12 }
@@ -125,6 +127,7 @@ impl Instr {
         )
     }
 
+    #[inline(always)]
     fn operator_row(self) -> Instruction
         requires first { 13 ≤ self.code }
         requires last { self.code ≤ 39 }
@@ -162,6 +165,7 @@ impl Instr {
         )
     }
 
+    #[inline(always)]
     fn action_row(self) -> Instruction
         requires first { 40 ≤ self.code }
         requires last { self.code ≤ 70 }
@@ -204,6 +208,7 @@ impl Instr {
         )
     }
 
+    #[inline(always)]
     fn long_row(self) -> Instruction
         requires first { 71 ≤ self.code }
         requires last { self.code ≤ 93 }

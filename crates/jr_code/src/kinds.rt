@@ -1,6 +1,6 @@
 //! The kinds of the operands at a place.
 
-ghost use Rattle.std.specs.Prelude.{◌≡◌, ◌↔◌, ◌∷◌, [], IfOk, OnOk, MatchOption, IsTrue, length};
+ghost use Rattle.std.specs.Prelude.{◌≡◌, ◌↔◌, ◌∷◌, [], IfOk, OnOk, MatchOption, IsTrue, reverse};
 ghost use Rattle.jr_code.specs.Checked.{NoneCaught};
 ghost use Rattle.jr_code.specs.Verifier.{Changes, HasChanged, HasTakenValues};
 
@@ -45,26 +45,27 @@ impl Kinds {
         self.kinds.pop()
     }
 
-    /// The same kinds, with room for the two more that an instruction adds at most.
-    pub(crate) fn copy(&self) -> Result<Kinds, AllocError>
-        ensures { IfOk result (λ copy. copy ≡ self.now) }
+    /// Takes these kinds, topmost last, in place of those that it has.
+    pub(crate) fn set(&mut self, kinds: &[SlotKind]) -> Result<(), AllocError>
+        ensures { OnOk result (self.new ≡ reverse kinds.now) }
     {
-        let room = self.kinds.len().saturating_add(2);
-        let mut kinds = Vec::with_capacity(*self.kinds.allocator(), room)?;
-        kinds.extend_from_slice(self.kinds.as_slice())?;
-        Ok(Kinds { kinds })
+        self.kinds.clear();
+        self.kinds.extend_from_slice(kinds)?;
+        Ok(())
     }
 
-    pub(crate) fn len(&self) -> usize
-        ensures { result ≡ length self.now }
+    /// The kinds, topmost last.
+    pub(crate) fn as_slice(&self) -> &[SlotKind]
+        ensures { reverse result.now ≡ self.now }
     {
-        self.kinds.len()
+        self.kinds.as_slice()
     }
 
-    pub(crate) fn is_same(&self, other: &Kinds) -> bool
-        ensures { IsTrue result ↔ (self.now ≡ other.now) }
+    /// Whether these are the kinds, topmost last.
+    pub(crate) fn are(&self, kinds: &[SlotKind]) -> bool
+        ensures { IsTrue result ↔ (self.now ≡ reverse kinds.now) }
     {
-        self.kinds.as_slice() == other.kinds.as_slice()
+        self.kinds.as_slice() == kinds
     }
 
     /// Takes operands of these kinds, topmost last, if they are there.

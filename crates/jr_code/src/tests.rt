@@ -159,7 +159,7 @@ fn told(alloc: Global, frame: &Frame<'_>, rows: Rows<'_>) -> Result<Option<Check
 }
 
 /// Instructions of the plain method that break one rule, and the place at which it is broken.
-static BROKEN: [(Rows<'static>, u32); 50] = [
+static BROKEN: [(Rows<'static>, u32); 51] = [
     // no path runs off the end
     (&[], 0),
     (&[(61, 0)], 0),
@@ -199,6 +199,10 @@ static BROKEN: [(Rows<'static>, u32); 50] = [
     // every path to an instruction brings the same kinds
     (&[(2, 0), (41, 3), (1, 0), (64, 0)], 3),
     (&[(1, 0), (43, 0)], 0),
+    (
+        &[(2, 0), (42, 4), (4, 0), (40, 5), (1, 3), (8, 0), (64, 0)],
+        5,
+    ),
     // a jump goes forward, and `back` does not
     (&[(40, 0)], 0),
     (&[(61, 0), (40, 0)], 1),
@@ -221,10 +225,22 @@ static BROKEN: [(Rows<'static>, u32); 50] = [
 ];
 
 /// Instructions of the plain method that break no rule.
-static KEPT: [Rows<'static>; 9] = [
+static KEPT: [Rows<'static>; 10] = [
     &[(64, 0)],
     &[(69, 0)],
     &[(43, 0)],
+    // two paths bring the same two operands
+    &[
+        (1, 1),
+        (2, 0),
+        (42, 5),
+        (1, 2),
+        (40, 6),
+        (1, 3),
+        (13, 0),
+        (8, 0),
+        (64, 0),
+    ],
     // what no path reaches is not looked at
     &[(64, 0), (13, 0)],
     // `back` to an instruction that was not reached before

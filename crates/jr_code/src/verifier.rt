@@ -1,6 +1,6 @@
 //! Follows the paths of a method, and finds the kinds that they bring to each instruction.
 
-ghost use Rattle.std.specs.Prelude.{◌≡◌, ◌<◌, ◌≤◌, IfOk, IfErr, OnOk, MatchOption, ℕ, length, min, vec_len, slice_get, Some};
+ghost use Rattle.std.specs.Prelude.{◌≡◌, ◌<◌, ◌≤◌, IfOk, IfErr, OnOk, MatchOption, ℕ, length, min, slice_get, Some};
 ghost use Rattle.jr_code.specs.declared.instruction.Flow.TheVariants as flows;
 ghost use Rattle.jr_code.specs.Decoded.{meaning};
 ghost use Rattle.jr_code.specs.Paths.{Reaches};
@@ -14,24 +14,26 @@ use crate::effects::apply;
 use crate::handler::{Handler, handlers_of};
 use crate::instruction::Flow;
 use crate::kinds::Kinds;
-use crate::shapes::{Arrival, Stop, arrive};
+use crate::shapes::{Arrival, Shapes, Stop};
 use jr_base::SlotKind;
+use std::alloc::Global;
 
 /// Lets kinds that a path brings come to a place, and says whether they are the first there.
 pub(crate) fn reach(
     code: &Code,
     method: &MethodCode,
-    shapes: &mut Vec<Option<Kinds>>,
+    shapes: &mut Shapes,
     at: u32,
-    kinds: Kinds,
+    kinds: &Kinds,
 ) -> Result<bool, Stop>
-    requires path { Reaches (plain_of code.now) (plain_method code.now method.now) at kinds }
-    requires sound { OnPaths (plain_of code.now) (plain_method code.now method.now) shapes.old.items }
-    requires inside { at < vec_len shapes.old }
-    ensures ok { IfOk result (Reached (plain_of code.now) (plain_method code.now method.now) shapes.old.items at kinds shapes.new.items) }
+    requires path { Reaches (plain_of code.now) (plain_method code.now method.now) at kinds.now }
+    requires sound { OnPaths (plain_of code.now) (plain_method code.now method.now) shapes.old }
+    requires inside { at < length shapes.old }
+    ensures ok { IfOk result (Reached (plain_of code.now) (plain_method code.now method.now) shapes.old at kinds.now shapes.new) }
     ensures err { IfErr result (Tells code.now method.now) }
 {
-    match arrive(shapes, at, kinds) {
+    let arrival = shapes.arrive(at, kinds)?;
+    match arrival {
         Arrival::First => Ok(true),
         Arrival::Same => Ok(false),
         Arrival::Other => Err(Stop::Broken(at)),
@@ -42,15 +44,15 @@ pub(crate) fn reach(
 fn advance(
     code: &Code,
     method: &MethodCode,
-    shapes: &mut Vec<Option<Kinds>>,
+    shapes: &mut Shapes,
     at: u32,
     to: u32,
-    kinds: Kinds,
+    kinds: &Kinds,
 ) -> Result<bool, Stop>
-    requires leads { Leads (plain_of code.now) (plain_method code.now method.now) shapes.old.items at to kinds }
-    requires sound { OnPaths (plain_of code.now) (plain_method code.now method.now) shapes.old.items }
-    requires size { length shapes.old.items ≡ length method.now.instrs.items }
-    ensures ok { IfOk result (Reached (plain_of code.now) (plain_method code.now method.now) shapes.old.items to kinds shapes.new.items) }
+    requires leads { Leads (plain_of code.now) (plain_method code.now method.now) shapes.old at to kinds.now }
+    requires sound { OnPaths (plain_of code.now) (plain_method code.now method.now) shapes.old }
+    requires size { length shapes.old ≡ length method.now.instrs.items }
+    ensures ok { IfOk result (Reached (plain_of code.now) (plain_method code.now method.now) shapes.old to kinds.now shapes.new) }
     ensures err { IfErr result (Tells code.now method.now) }
 {
     if to >= method.instrs.len() {
@@ -63,15 +65,15 @@ fn advance(
 fn go_next(
     code: &Code,
     method: &MethodCode,
-    shapes: &mut Vec<Option<Kinds>>,
+    shapes: &mut Shapes,
     at: u32,
-    kinds: Kinds,
+    kinds: &Kinds,
 ) -> Result<u32, Stop>
-    requires leaves { LeavesBy (plain_of code.now) (plain_method code.now method.now) shapes.old.items at flows.Next kinds }
-    requires sound { OnPaths (plain_of code.now) (plain_method code.now method.now) shapes.old.items }
-    requires size { length shapes.old.items ≡ length method.now.instrs.items }
+    requires leaves { LeavesBy (plain_of code.now) (plain_method code.now method.now) shapes.old at flows.Next kinds.now }
+    requires sound { OnPaths (plain_of code.now) (plain_method code.now method.now) shapes.old }
+    requires size { length shapes.old ≡ length method.now.instrs.items }
     requires inside { at < length method.now.instrs.items }
-    ensures ok { IfOk result (Visited (plain_of code.now) (plain_method code.now method.now) shapes.old.items at shapes.new.items) }
+    ensures ok { IfOk result (Visited (plain_of code.now) (plain_method code.now method.now) shapes.old at shapes.new) }
     ensures err { IfErr result (Tells code.now method.now) }
 {
     let _n = method.instrs.len();
@@ -82,16 +84,16 @@ fn go_next(
 fn jump(
     code: &Code,
     method: &MethodCode,
-    shapes: &mut Vec<Option<Kinds>>,
+    shapes: &mut Shapes,
     at: u32,
     to: u32,
-    kinds: Kinds,
+    kinds: &Kinds,
 ) -> Result<u32, Stop>
-    requires leaves { LeavesBy (plain_of code.now) (plain_method code.now method.now) shapes.old.items at (flows.Jump to) kinds }
-    requires sound { OnPaths (plain_of code.now) (plain_method code.now method.now) shapes.old.items }
-    requires size { length shapes.old.items ≡ length method.now.instrs.items }
+    requires leaves { LeavesBy (plain_of code.now) (plain_method code.now method.now) shapes.old at (flows.Jump to) kinds.now }
+    requires sound { OnPaths (plain_of code.now) (plain_method code.now method.now) shapes.old }
+    requires size { length shapes.old ≡ length method.now.instrs.items }
     requires inside { at < length method.now.instrs.items }
-    ensures ok { IfOk result (Visited (plain_of code.now) (plain_method code.now method.now) shapes.old.items at shapes.new.items) }
+    ensures ok { IfOk result (Visited (plain_of code.now) (plain_method code.now method.now) shapes.old at shapes.new) }
     ensures err { IfErr result (Tells code.now method.now) }
 {
     if to <= at {
@@ -104,23 +106,22 @@ fn jump(
 fn branch(
     code: &Code,
     method: &MethodCode,
-    shapes: &mut Vec<Option<Kinds>>,
+    shapes: &mut Shapes,
     at: u32,
     to: u32,
-    kinds: Kinds,
+    kinds: &Kinds,
 ) -> Result<u32, Stop>
-    requires leaves { LeavesBy (plain_of code.now) (plain_method code.now method.now) shapes.old.items at (flows.Branch to) kinds }
-    requires sound { OnPaths (plain_of code.now) (plain_method code.now method.now) shapes.old.items }
-    requires size { length shapes.old.items ≡ length method.now.instrs.items }
+    requires leaves { LeavesBy (plain_of code.now) (plain_method code.now method.now) shapes.old at (flows.Branch to) kinds.now }
+    requires sound { OnPaths (plain_of code.now) (plain_method code.now method.now) shapes.old }
+    requires size { length shapes.old ≡ length method.now.instrs.items }
     requires inside { at < length method.now.instrs.items }
-    ensures ok { IfOk result (Visited (plain_of code.now) (plain_method code.now method.now) shapes.old.items at shapes.new.items) }
+    ensures ok { IfOk result (Visited (plain_of code.now) (plain_method code.now method.now) shapes.old at shapes.new) }
     ensures err { IfErr result (Tells code.now method.now) }
 {
     if to <= at {
         return Err(Stop::Broken(at));
     }
-    let there = kinds.copy()?;
-    advance(code, method, shapes, at, to, there)?;
+    advance(code, method, shapes, at, to, kinds)?;
     advance(code, method, shapes, at, at + 1, kinds)?;
     Ok(at + 1)
 }
@@ -128,16 +129,16 @@ fn branch(
 fn back(
     code: &Code,
     method: &MethodCode,
-    shapes: &mut Vec<Option<Kinds>>,
+    shapes: &mut Shapes,
     at: u32,
     to: u32,
-    kinds: Kinds,
+    kinds: &Kinds,
 ) -> Result<u32, Stop>
-    requires leaves { LeavesBy (plain_of code.now) (plain_method code.now method.now) shapes.old.items at (flows.Back to) kinds }
-    requires sound { OnPaths (plain_of code.now) (plain_method code.now method.now) shapes.old.items }
-    requires size { length shapes.old.items ≡ length method.now.instrs.items }
+    requires leaves { LeavesBy (plain_of code.now) (plain_method code.now method.now) shapes.old at (flows.Back to) kinds.now }
+    requires sound { OnPaths (plain_of code.now) (plain_method code.now method.now) shapes.old }
+    requires size { length shapes.old ≡ length method.now.instrs.items }
     requires inside { at < length method.now.instrs.items }
-    ensures ok { IfOk result (Visited (plain_of code.now) (plain_method code.now method.now) shapes.old.items at shapes.new.items) }
+    ensures ok { IfOk result (Visited (plain_of code.now) (plain_method code.now method.now) shapes.old at shapes.new) }
     ensures err { IfErr result (Tells code.now method.now) }
 {
     let _n = method.instrs.len();
@@ -155,15 +156,15 @@ fn back(
 fn leave(
     code: &Code,
     method: &MethodCode,
-    shapes: &Vec<Option<Kinds>>,
+    shapes: &Shapes,
     at: u32,
     kinds: &mut Kinds,
 ) -> Result<Flow, Stop>
     requires locals { LocalsBegin method.now }
-    requires there { slice_get shapes.now.items at ≡ Some (Some kinds.old) }
-    requires sound { OnPaths (plain_of code.now) (plain_method code.now method.now) shapes.now.items }
+    requires there { slice_get shapes.now at ≡ Some (Some kinds.old) }
+    requires sound { OnPaths (plain_of code.now) (plain_method code.now method.now) shapes.now }
     requires inside { at < length method.now.instrs.items }
-    ensures ok { IfOk result (λ flow. LeavesBy (plain_of code.now) (plain_method code.now method.now) shapes.now.items at flow kinds.new) }
+    ensures ok { IfOk result (λ flow. LeavesBy (plain_of code.now) (plain_method code.now method.now) shapes.now at flow kinds.new) }
     ensures err { IfErr result (Tells code.now method.now) }
 {
     let Some(instruction) = method.instrs.get(at).decode() else {
@@ -178,16 +179,16 @@ fn leave(
 fn go_on(
     code: &Code,
     method: &MethodCode,
-    shapes: &mut Vec<Option<Kinds>>,
+    shapes: &mut Shapes,
     at: u32,
     flow: Flow,
-    kinds: Kinds,
+    kinds: &Kinds,
 ) -> Result<u32, Stop>
-    requires leaves { LeavesBy (plain_of code.now) (plain_method code.now method.now) shapes.old.items at flow kinds }
-    requires sound { OnPaths (plain_of code.now) (plain_method code.now method.now) shapes.old.items }
-    requires size { length shapes.old.items ≡ length method.now.instrs.items }
+    requires leaves { LeavesBy (plain_of code.now) (plain_method code.now method.now) shapes.old at flow kinds.now }
+    requires sound { OnPaths (plain_of code.now) (plain_method code.now method.now) shapes.old }
+    requires size { length shapes.old ≡ length method.now.instrs.items }
     requires inside { at < length method.now.instrs.items }
-    ensures ok { IfOk result (Visited (plain_of code.now) (plain_method code.now method.now) shapes.old.items at shapes.new.items) }
+    ensures ok { IfOk result (Visited (plain_of code.now) (plain_method code.now method.now) shapes.old at shapes.new) }
     ensures err { IfErr result (Tells code.now method.now) }
 {
     let _n = method.instrs.len();
@@ -204,22 +205,22 @@ fn go_on(
 fn visit(
     code: &Code,
     method: &MethodCode,
-    shapes: &mut Vec<Option<Kinds>>,
+    shapes: &mut Shapes,
     at: u32,
+    kinds: &mut Kinds,
 ) -> Result<u32, Stop>
     requires locals { LocalsBegin method.now }
-    requires sound { OnPaths (plain_of code.now) (plain_method code.now method.now) shapes.old.items }
-    requires size { length shapes.old.items ≡ length method.now.instrs.items }
+    requires sound { OnPaths (plain_of code.now) (plain_method code.now method.now) shapes.old }
+    requires size { length shapes.old ≡ length method.now.instrs.items }
     requires inside { at < length method.now.instrs.items }
-    ensures ok { IfOk result (Visited (plain_of code.now) (plain_method code.now method.now) shapes.old.items at shapes.new.items) }
+    ensures ok { IfOk result (Visited (plain_of code.now) (plain_method code.now method.now) shapes.old at shapes.new) }
     ensures err { IfErr result (Tells code.now method.now) }
 {
     let _n = method.instrs.len();
-    let mut kinds = match &shapes[at as usize] {
-        Some(kinds) => kinds.copy()?,
-        None => return Ok(at + 1),
-    };
-    let flow = leave(code, method, shapes, at, &mut kinds)?;
+    if !shapes.read(at, kinds)? {
+        return Ok(at + 1);
+    }
+    let flow = leave(code, method, shapes, at, kinds)?;
     go_on(code, method, shapes, at, flow, kinds)
 }
 
@@ -227,22 +228,23 @@ fn visit(
 fn sweep_to(
     code: &Code,
     method: &MethodCode,
-    shapes: &mut Vec<Option<Kinds>>,
+    shapes: &mut Shapes,
     start: u32,
     end: u32,
+    kinds: &mut Kinds,
 ) -> Result<u32, Stop>
     requires locals { LocalsBegin method.now }
-    requires sound { OnPaths (plain_of code.now) (plain_method code.now method.now) shapes.old.items }
-    requires size { length shapes.old.items ≡ length method.now.instrs.items }
-    requires settled { SettledBelow (plain_of code.now) (plain_method code.now method.now) shapes.old.items start }
+    requires sound { OnPaths (plain_of code.now) (plain_method code.now method.now) shapes.old }
+    requires size { length shapes.old ≡ length method.now.instrs.items }
+    requires settled { SettledBelow (plain_of code.now) (plain_method code.now method.now) shapes.old start }
     requires inside { start ≤ length method.now.instrs.items }
-    ensures ok { IfOk result (SweptTo (plain_of code.now) (plain_method code.now method.now) shapes.old.items shapes.new.items (min end (length method.now.instrs.items))) }
+    ensures ok { IfOk result (SweptTo (plain_of code.now) (plain_method code.now method.now) shapes.old shapes.new (min end (length method.now.instrs.items))) }
     ensures err { IfErr result (Tells code.now method.now) }
 {
     let end = end.min(method.instrs.len());
     let mut at = start;
     while at < end {
-        at = visit(code, method, shapes, at)?;
+        at = visit(code, method, shapes, at, kinds)?;
     }
     Ok(at)
 }
@@ -252,19 +254,20 @@ fn sweep_to(
 fn wake(
     code: &Code,
     method: &MethodCode,
-    shapes: &mut Vec<Option<Kinds>>,
+    shapes: &mut Shapes,
     number: u32,
     at: u32,
+    kinds: &mut Kinds,
 ) -> Result<u32, Stop>
-    requires sound { OnPaths (plain_of code.now) (plain_method code.now method.now) shapes.old.items }
-    requires size { length shapes.old.items ≡ length method.now.instrs.items }
-    requires settled { SettledBelow (plain_of code.now) (plain_method code.now method.now) shapes.old.items at }
+    requires sound { OnPaths (plain_of code.now) (plain_method code.now method.now) shapes.old }
+    requires size { length shapes.old ≡ length method.now.instrs.items }
+    requires settled { SettledBelow (plain_of code.now) (plain_method code.now method.now) shapes.old at }
     requires inside { at ≤ length method.now.instrs.items }
     requires region { number < length method.now.regions.items }
-    ensures ok { IfOk result (SweptTo (plain_of code.now) (plain_method code.now method.now) shapes.old.items shapes.new.items 0) }
+    ensures ok { IfOk result (SweptTo (plain_of code.now) (plain_method code.now method.now) shapes.old shapes.new 0) }
     ensures err { IfErr result (Tells code.now method.now) }
 {
-    match catch(code, method, shapes, number)? {
+    match catch(code, method, shapes, number, kinds)? {
         Some(place) => Ok(at.min(place)),
         None => Ok(at),
     }
@@ -275,36 +278,37 @@ fn wake(
 fn sweep(
     code: &Code,
     method: &MethodCode,
-    shapes: &mut Vec<Option<Kinds>>,
+    shapes: &mut Shapes,
     handlers: &[Handler],
     start: u32,
+    kinds: &mut Kinds,
 ) -> Result<(), Stop>
     requires locals { LocalsBegin method.now }
-    requires sound { OnPaths (plain_of code.now) (plain_method code.now method.now) shapes.old.items }
-    requires size { length shapes.old.items ≡ length method.now.instrs.items }
-    requires settled { SettledBelow (plain_of code.now) (plain_method code.now method.now) shapes.old.items start }
+    requires sound { OnPaths (plain_of code.now) (plain_method code.now method.now) shapes.old }
+    requires size { length shapes.old ≡ length method.now.instrs.items }
+    requires settled { SettledBelow (plain_of code.now) (plain_method code.now method.now) shapes.old start }
     requires inside { start ≤ length method.now.instrs.items }
     requires numbers { AreNumbers (length method.now.regions.items) handlers.now }
-    ensures ok { OnOk result (Extends (plain_of code.now) (plain_method code.now method.now) shapes.old.items shapes.new.items 0) }
-    ensures settled { OnOk result (SettledBelow (plain_of code.now) (plain_method code.now method.now) shapes.new.items (length method.now.instrs.items)) }
+    ensures ok { OnOk result (Extends (plain_of code.now) (plain_method code.now method.now) shapes.old shapes.new 0) }
+    ensures settled { OnOk result (SettledBelow (plain_of code.now) (plain_method code.now method.now) shapes.new (length method.now.instrs.items)) }
     ensures err { IfErr result (Tells code.now method.now) }
 {
     let mut at = start;
     for handler in handlers {
-        at = sweep_to(code, method, shapes, at, handler.place)?;
-        at = wake(code, method, shapes, handler.region, at)?;
+        at = sweep_to(code, method, shapes, at, handler.place, kinds)?;
+        at = wake(code, method, shapes, handler.region, at, kinds)?;
     }
-    sweep_to(code, method, shapes, at, method.instrs.len())?;
+    sweep_to(code, method, shapes, at, method.instrs.len(), kinds)?;
     Ok(())
 }
 
 // A place from one to another that a path is known to reach.
-fn touched(shapes: &Vec<Option<Kinds>>, from: u32, to: u32) -> Option<u32>
-    requires { to ≤ vec_len shapes.now }
-    ensures { MatchOption result (Untouched shapes.now.items from to) (IsTouched shapes.now.items from to) }
+fn touched(shapes: &Shapes, from: u32, to: u32) -> Option<u32>
+    requires { to ≤ length shapes.now }
+    ensures { MatchOption result (Untouched shapes.now from to) (IsTouched shapes.now from to) }
 {
     for at in from..to {
-        if shapes[at as usize].is_some() {
+        if shapes.is_known(at) {
             return Some(at);
         }
     }
@@ -315,14 +319,15 @@ fn touched(shapes: &Vec<Option<Kinds>>, from: u32, to: u32) -> Option<u32>
 fn catch(
     code: &Code,
     method: &MethodCode,
-    shapes: &mut Vec<Option<Kinds>>,
+    shapes: &mut Shapes,
     number: u32,
+    kinds: &mut Kinds,
 ) -> Result<Option<u32>, Stop>
-    requires sound { OnPaths (plain_of code.now) (plain_method code.now method.now) shapes.old.items }
-    requires size { length shapes.old.items ≡ length method.now.instrs.items }
+    requires sound { OnPaths (plain_of code.now) (plain_method code.now method.now) shapes.old }
+    requires size { length shapes.old ≡ length method.now.instrs.items }
     requires inside { number < length method.now.regions.items }
-    ensures ok { IfOk result (λ low. MatchOption low ((shapes.new.items ≡ shapes.old.items) × CatchDone (plain_method code.now method.now) shapes.new.items number)
-        (Woken (plain_of code.now) (plain_method code.now method.now) shapes.old.items shapes.new.items)) }
+    ensures ok { IfOk result (λ low. MatchOption low ((shapes.new ≡ shapes.old) × CatchDone (plain_method code.now method.now) shapes.new number)
+        (Woken (plain_of code.now) (plain_method code.now method.now) shapes.old shapes.new)) }
     ensures err { IfErr result (Tells code.now method.now) }
 {
     let region = method.regions.get(number);
@@ -340,8 +345,7 @@ fn catch(
     if let Some(_behind) = touched(shapes, region.first.max(region.target), past) {
         return Err(Stop::Broken(0));
     }
-    let mut kinds = Kinds::new(*shapes.allocator());
-    kinds.push(SlotKind::Caught)?;
+    kinds.set(&[SlotKind::Caught])?;
     if reach(code, method, shapes, region.target, kinds)? {
         Ok(Some(region.target))
     } else {
@@ -353,16 +357,17 @@ fn catch(
 fn catches(
     code: &Code,
     method: &MethodCode,
-    shapes: &mut Vec<Option<Kinds>>,
+    shapes: &mut Shapes,
+    kinds: &mut Kinds,
 ) -> Result<Option<u32>, Stop>
-    requires sound { OnPaths (plain_of code.now) (plain_method code.now method.now) shapes.old.items }
-    requires size { length shapes.old.items ≡ length method.now.instrs.items }
-    ensures ok { IfOk result (Caught (plain_of code.now) (plain_method code.now method.now) shapes.old.items shapes.new.items (length method.now.regions.items)) }
+    requires sound { OnPaths (plain_of code.now) (plain_method code.now method.now) shapes.old }
+    requires size { length shapes.old ≡ length method.now.instrs.items }
+    ensures ok { IfOk result (Caught (plain_of code.now) (plain_method code.now method.now) shapes.old shapes.new (length method.now.regions.items)) }
     ensures err { IfErr result (Tells code.now method.now) }
 {
     let mut low = None;
     for number in 0..method.regions.len() {
-        let woken = catch(code, method, shapes, number)?;
+        let woken = catch(code, method, shapes, number, kinds)?;
         low = lower(low, woken);
     }
     Ok(low)
@@ -380,23 +385,25 @@ fn lower(low: Option<u32>, other: Option<u32>) -> Option<u32>
 
 /// Settles all instructions that a path reaches, and all handlers.
 pub(crate) fn settle(
+    alloc: Global,
     code: &Code,
     method: &MethodCode,
-    shapes: &mut Vec<Option<Kinds>>,
+    shapes: &mut Shapes,
 ) -> Result<(), Stop>
     requires locals { LocalsBegin method.now }
-    requires sound { OnPaths (plain_of code.now) (plain_method code.now method.now) shapes.old.items }
-    requires size { length shapes.old.items ≡ length method.now.instrs.items }
-    ensures ok { OnOk result (Extends (plain_of code.now) (plain_method code.now method.now) shapes.old.items shapes.new.items 0) }
-    ensures settled { OnOk result (SettledBelow (plain_of code.now) (plain_method code.now method.now) shapes.new.items (length method.now.instrs.items)) }
-    ensures caught { OnOk result ((k : ℕ) → k < length method.now.regions.items → CatchDone (plain_method code.now method.now) shapes.new.items k) }
+    requires sound { OnPaths (plain_of code.now) (plain_method code.now method.now) shapes.old }
+    requires size { length shapes.old ≡ length method.now.instrs.items }
+    ensures ok { OnOk result (Extends (plain_of code.now) (plain_method code.now method.now) shapes.old shapes.new 0) }
+    ensures settled { OnOk result (SettledBelow (plain_of code.now) (plain_method code.now method.now) shapes.new (length method.now.instrs.items)) }
+    ensures caught { OnOk result ((k : ℕ) → k < length method.now.regions.items → CatchDone (plain_method code.now method.now) shapes.new k) }
     ensures err { IfErr result (Tells code.now method.now) }
 {
-    let handlers = handlers_of(*shapes.allocator(), method)?;
+    let handlers = handlers_of(alloc, method)?;
+    let mut kinds = Kinds::new(alloc);
     let mut start = Some(0);
     while let Some(at) = start {
-        sweep(code, method, shapes, handlers.as_slice(), at)?;
-        start = catches(code, method, shapes)?;
+        sweep(code, method, shapes, handlers.as_slice(), at, &mut kinds)?;
+        start = catches(code, method, shapes, &mut kinds)?;
     }
     Ok(())
 }

@@ -1,2 +1,12 @@
+mod AtMoment
+pub mod Constants
+mod Judging
+pub mod Making
+mod NothingDue
+pub mod OneGuest
 pub mod Reaching
-pub mod Walking
+pub mod Replies
+pub mod Running
+pub mod Starting
+pub mod Steps
+pub mod Stores

@@ -1,4 +1,9 @@
-pub mod Heap
+pub mod Blanks
+pub mod Counted
+pub mod DueThere
+pub mod Moment
+pub mod OpenCalls
 pub mod Reached
-pub mod Stacks
-pub mod Walk
+pub mod Runs
+pub mod StandsAt
+pub mod Stored

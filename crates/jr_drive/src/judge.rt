@@ -1,160 +1,179 @@
-//! Judges the clauses that are due at a call, on the heap that stands before it.
+//! Judges the clauses that are due at a step.
 
-ghost use Rattle.std.specs.Prelude.{◌≡◌, ◌+◌, ◌≤◌, ◌++◌, length, map, slice_get, option_and_then, ◌<◌, IfOk, OnOk, OnErr, ◌+ℤ◌, ◌-ℤ◌};
-ghost use Rattle.std.specs.Int.{w32, int_wrap};
-ghost use Rattle.std.specs.Option.{option_map, option_copied};
+ghost use Rattle.std.specs.Prelude.{◌≡◌, ◌≤◌, ◌++◌, true, List, map, drop, length, slice_get, IfOk, OnOk};
+ghost use Rattle.std.specs.Option.{option_map};
 ghost use Rattle.jr_base.specs.Deed.{deed_of};
-ghost use Rattle.jr_ast.specs.Programs.{program_of, expr_view, shape_whole, relation_view, clause_view, clause_at, preconditions_of};
-ghost use Rattle.jr_journal.specs.FirstForm.World.{cells_of};
-ghost use Rattle.jr_journal.specs.FirstForm.Verdicts.{due_of, number_in, of_both, expr_value, compares, verdict_on, relation_value, clause_value, judged_from};
+ghost use Rattle.jr_base.specs.declared.number.GuestNo.{GuestNo};
+ghost use Rattle.jr_program.specs.UnitViews.{program_of};
+ghost use Rattle.jr_meaning.specs.Event.{Event};
+ghost use Rattle.jr_meaning.specs.Due.{object_in, frame_environment, with_variables};
+ghost use Rattle.jr_meaning.specs.Verdicts.{clause_values_at};
+ghost use Rattle.jr_built.specs.Built.{is_built};
+ghost use Rattle.jr_heap.specs.Plain.{seen_in};
+ghost use Rattle.jr_clause_eval.specs.Scenes.{environment_of as environment_in};
+ghost use Rattle.jr_drive.specs.DueThere.{numbers_in};
+ghost use Rattle.jr_drive.specs.Moment.{moment_value, moment_values, site_of, environment_of};
+ghost use Rattle.jr_drive.specs.StandsAt.{StandsAt};
 
-use jr_ast::{Comparison, Relation, TypedExpr, TypedShape, TypedUnit};
-use jr_base::{Action, ClauseId, Memory, MethodId, Stamp, Value, Verdict};
-use jr_journal::{Entry, Journal};
+use crate::due::{Due, due_at};
+use crate::frames::{Frames, append};
+use jr_base::{Action, ClauseId, Env, LeaveHow, Locks, Memory, Value, Values, Verdict};
+use jr_built::laws::built_clauses_look_at_the_moment;
+use jr_clause_eval::laws::clauses_name_class_objects;
+use jr_clause_eval::value;
+use jr_heap::{PlainHeap, PlainReader};
+use jr_meaning::history_laws::old_heaps_are_unseen;
+use jr_program::{Site, TypedUnit};
+use std::alloc::Global;
 
-/// The most clauses that a step can have verdicts on: a journal numbers their places by a byte.
-const PLACES: usize = 256;
-
-/// How many entries a step takes: itself, and a verdict on each clause that is due at it. `Memory` comes
-/// where there are more than 256, of which no journal can keep the verdicts.
-pub fn room_of(unit: &TypedUnit, action: &Action) -> Result<u32, Memory>
-    ensures entries { IfOk result (λ n. n ≡ 1 + length (due_of (program_of unit.now) (deed_of action.now))) }
-    ensures few { OnOk result (length (due_of (program_of unit.now) (deed_of action.now)) ≤ 256) }
-    ensures many { OnErr result (256 < length (due_of (program_of unit.now) (deed_of action.now))) }
+/// Judges the clauses that are due at a step of a built program, just before it is made: `values` is then what they
+/// are worth, in order. `Memory` says nothing of `values`.
+pub fn judge(
+    alloc: Global,
+    unit: &TypedUnit,
+    frames: &Frames,
+    heap: &PlainHeap,
+    action: &Action,
+    values: &mut Vec<Verdict>,
+) -> Result<(), Memory>
+    requires { is_built (program_of unit.now) ≡ true }
+    ensures values { OnOk result ((h : List Event) (g : GuestNo) → StandsAt (program_of unit.now) h g frames.now (seen_in heap.now) →
+        values.new.items ≡ clause_values_at (program_of unit.now) (record { before = h; guest = g; deed = deed_of action.now })) }
+    ensures few { OnOk result (length values.new.items ≤ 16) }
 {
-    let due = clauses_due(unit, action).len();
-    if due > PLACES {
-        return Err(Memory);
-    }
-    Ok(1 + due as u32)
+    built_clauses_look_at_the_moment();
+    old_heaps_are_unseen();
+    judge_at_moment(alloc, unit, frames, heap, action, values)
 }
 
-// The clauses that are due at an action, in order of place.
-fn clauses_due<'a>(unit: &'a TypedUnit, action: &Action) -> &'a [ClauseId]
-    ensures { result.now ≡ due_of (program_of unit.now) (deed_of action.now) }
+/// The same, of any program, for what passes no monitor and no field.
+fn judge_at_moment(
+    alloc: Global,
+    unit: &TypedUnit,
+    frames: &Frames,
+    heap: &PlainHeap,
+    action: &Action,
+    values: &mut Vec<Verdict>,
+) -> Result<(), Memory>
+    ensures values { OnOk result (values.new.items ≡ moment_values (program_of unit.now) (seen_in heap.now) (slice_get frames.now 0) (deed_of action.now)) }
+    ensures few { OnOk result (length values.new.items ≤ 16) }
+{
+    values.clear();
+    let Some(site) = site_passed(action) else {
+        return Ok(());
+    };
+    let due = due_at(unit, site);
+    if due.len() == 0 {
+        return Ok(());
+    }
+    let Some(env) = environment(alloc, frames, action)? else {
+        return Ok(());
+    };
+    judge_each(unit, &due, &env, heap, values)
+}
+
+/// The site that a step passes, but for those at which nothing is due in a built program.
+fn site_passed(action: &Action) -> Option<Site>
+    ensures { result ≡ site_of (deed_of action.now) }
 {
     match action {
-        Action::Call { method, .. } => unit.preconditions(*method),
-        _ => &[],
-    }
-}
-
-/// Judges the clauses that are due where a method is called: a verdict on each, in order of place, on the
-/// arguments and on the values that the static fields have just before the call. The entries go into
-/// room that was reserved.
-pub fn judge_call(
-    unit: &TypedUnit,
-    method: MethodId,
-    arguments: &[Value],
-    fields: &[Value],
-    step: Stamp,
-    journal: &mut Journal,
-)
-    requires few { length (preconditions_of (program_of unit.now) method) ≤ 256 }
-    requires room { length (preconditions_of (program_of unit.now) method) ≤ journal.old.spare }
-    ensures entries { journal.new.entries ≡ journal.old.entries ++ judged_from step 0
-        (map (clause_value (program_of unit.now) arguments.now (cells_of fields.now)) (preconditions_of (program_of unit.now) method)) }
-    ensures spare { journal.new.spare + length (preconditions_of (program_of unit.now) method) ≡ journal.old.spare }
-{
-    for (place, number) in unit.preconditions(method).iter().enumerate() {
-        let value = value_of_clause(unit, *number, arguments, fields);
-        let place = place as u8;
-        journal.push(Entry::Verdict { step, place, value });
-    }
-}
-
-// What a clause is worth. A number that no clause has is undefined.
-fn value_of_clause(
-    unit: &TypedUnit,
-    number: ClauseId,
-    arguments: &[Value],
-    fields: &[Value],
-) -> Verdict
-    ensures { result ≡ clause_value (program_of unit.now) arguments.now (cells_of fields.now) number }
-{
-    match unit.clause(number) {
-        Some(clause) => value_of_relation(&clause.condition, arguments, fields),
-        None => Verdict::Undefined,
-    }
-}
-
-// What a comparison is worth: it is undefined where one of its sides has no value.
-fn value_of_relation(relation: &Relation, arguments: &[Value], fields: &[Value]) -> Verdict
-    ensures { result ≡ relation_value arguments.now (cells_of fields.now) (relation_view relation.now) }
-{
-    let left = value_of(&relation.left, arguments, fields);
-    let right = value_of(&relation.right, arguments, fields);
-    match (left, right) {
-        (Some(left), Some(right)) if holds(relation.comparison, left, right) => Verdict::True,
-        (Some(_), Some(_)) => Verdict::False,
-        _ => Verdict::Undefined,
-    }
-}
-
-// Whether two numbers compare so.
-fn holds(comparison: Comparison, left: i32, right: i32) -> bool
-    ensures { result ≡ compares comparison left right }
-{
-    match comparison {
-        Comparison::Less => left < right,
-        Comparison::LessOrEqual => left <= right,
-        Comparison::Greater => left > right,
-        Comparison::GreaterOrEqual => left >= right,
-        Comparison::Equal => left == right,
-        Comparison::NotEqual => left != right,
-    }
-}
-
-// What an expression is worth. A sum wraps (JLS 15.18.2).
-#[cycle(value)]
-fn value_of(expr: &TypedExpr, arguments: &[Value], fields: &[Value]) -> Option<i32>
-    ensures { result ≡ expr_value arguments.now (cells_of fields.now) (expr_view expr.now) }
-{
-    value_of_shape(expr.shape.get(), arguments, fields)
-}
-
-#[cycle(value)]
-fn value_of_shape(shape: &TypedShape, arguments: &[Value], fields: &[Value]) -> Option<i32>
-    ensures { result ≡ expr_value arguments.now (cells_of fields.now) (shape_whole shape.now) }
-{
-    match shape {
-        TypedShape::Number(n) => Some(*n),
-        TypedShape::Local(place) => number_at(arguments, *place),
-        TypedShape::Field(field) => number_at(fields, field.0),
-        TypedShape::Plus(left, right) => {
-            let left = value_of(left, arguments, fields)?;
-            let right = value_of(right, arguments, fields)?;
-            Some(sum(left, right))
-        }
-        TypedShape::Minus(left, right) => {
-            let left = value_of(left, arguments, fields)?;
-            let right = value_of(right, arguments, fields)?;
-            Some(difference(left, right))
-        }
-        TypedShape::Call(_, _) => None,
-    }
-}
-
-// A sum wraps at 32 bits (JLS 15.18.2).
-fn sum(left: i32, right: i32) -> i32
-    ensures { result ≡ int_wrap w32 (left +ℤ right) }
-{
-    left.wrapping_add(right)
-}
-
-// And so does a difference.
-fn difference(left: i32, right: i32) -> i32
-    ensures { result ≡ int_wrap w32 (left -ℤ right) }
-{
-    left.wrapping_sub(right)
-}
-
-// The number at a place, if there is one.
-fn number_at(values: &[Value], place: u32) -> Option<i32>
-    ensures { result ≡ option_and_then number_in (slice_get values.now place) }
-{
-    match values.get(place as usize) {
-        Some(Value::Int(n)) => Some(*n),
+        Action::Call { method, .. } => Some(Site::Entry(*method)),
+        Action::Commit { method } => Some(Site::Commit(*method)),
+        Action::Leave {
+            method,
+            how: LeaveHow::Normal(_),
+        } => Some(Site::Return(*method)),
+        Action::Assert { clause, .. } => Some(Site::Assert(*clause)),
         _ => None,
     }
+}
+
+/// On what the clauses at the site that a step passes are judged.
+fn environment(alloc: Global, frames: &Frames, action: &Action) -> Result<Option<Env>, Memory>
+    ensures { IfOk result (λ env. option_map environment_in env ≡ environment_of (slice_get frames.now 0) (deed_of action.now)) }
+{
+    match action {
+        Action::Call { this, args, .. } => Ok(Some(Env {
+            this: *this,
+            values: args.copy()?,
+            result: None,
+            entered: None,
+        })),
+        Action::Commit { .. } => in_newest(frames, None),
+        Action::Leave {
+            how: LeaveHow::Normal(value),
+            ..
+        } => in_newest(frames, *value),
+        Action::Assert { env, .. } => Ok(Some(in_scope(alloc, env)?)),
+        _ => Ok(None),
+    }
+}
+
+/// That of the newest frame, with the result that it is left with.
+fn in_newest(frames: &Frames, returned: Option<Value>) -> Result<Option<Env>, Memory>
+    ensures { IfOk result (λ env. option_map environment_in env ≡ option_map (λ frame. record (frame_environment frame) { result = returned }) (slice_get frames.now 0)) }
+{
+    let Some(call) = frames.newest() else {
+        return Ok(None);
+    };
+    Ok(Some(Env {
+        this: call.this,
+        values: call.arguments.copy()?,
+        result: returned,
+        entered: None,
+    }))
+}
+
+/// That of an `assert`: `this` or null comes first, and behind it the variables in scope.
+fn in_scope(alloc: Global, values: &Values) -> Result<Env, Memory>
+    ensures { IfOk result (λ env. environment_in env ≡ with_variables (object_in (slice_get values.now.items 0)) (drop 1 values.now.items)) }
+{
+    let (this, rest) = match values.as_slice() {
+        [Value::Ref(object), rest @ ..] => (Some(*object), rest),
+        [_, rest @ ..] => (None, rest),
+        rest => (None, rest),
+    };
+    let mut variables = Values::new(alloc);
+    append(&mut variables, rest)?;
+    Ok(Env {
+        this,
+        values: variables,
+        result: None,
+        entered: None,
+    })
+}
+
+/// Adds what the clauses due are worth, in order of place.
+fn judge_each(
+    unit: &TypedUnit,
+    due: &Due<'_>,
+    env: &Env,
+    heap: &PlainHeap,
+    values: &mut Vec<Verdict>,
+) -> Result<(), Memory>
+    ensures values { OnOk result (values.new.items ≡ values.old.items ++ map (moment_value (program_of unit.now) (seen_in heap.now) (environment_in env.now)) (numbers_in due.now)) }
+{
+    for place in 0..due.len() {
+        values.push(value_of(unit, due.at(place), env, heap))?;
+    }
+    Ok(())
+}
+
+/// What the clause of that number is worth. No clause looks back, so the heap stands for the older one too.
+fn value_of(unit: &TypedUnit, number: ClauseId, env: &Env, heap: &PlainHeap) -> Verdict
+    ensures { result ≡ moment_value (program_of unit.now) (seen_in heap.now) (environment_in env.now) number }
+{
+    if number.0 == 0 || number.0 > unit.clause_count() {
+        return Verdict::Undefined;
+    }
+    unit.well_formed();
+    clauses_name_class_objects();
+    let clause = unit.clause(number);
+    value(
+        clause,
+        env,
+        &mut PlainReader { heap },
+        &mut PlainReader { heap },
+        &Locks::none(),
+    )
 }

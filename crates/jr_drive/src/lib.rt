@@ -1,15 +1,14 @@
-//! Runs a program: the one guest steps over a plain heap of static fields, and each clause due at a step is
-//! judged before the next one. Its one promise: [`drive`] gives a right record. What a right record is stands
-//! in `jr_journal`; what a guest has still to do, as the code keeps it, in `specs/Walk.antt` and
-//! `specs/Stacks.antt`.
+//! Runs a program of one thread by the serial rule, and judges its clauses.
 #![tactic(auto)]
 
+mod blanks;
+mod counted;
 mod driver;
-mod fields;
-mod frame;
-mod guest;
-mod int;
+mod due;
+mod frames;
 mod judge;
-mod stack;
+pub mod laws;
+mod store;
+mod turn;
 
-pub use driver::drive;
+pub use driver::drive_serial;

@@ -7,8 +7,8 @@ use Rattle.jr_ast.specs.declared.name.ElementType.TheVariants.{Int, Class as OfC
 use Rattle.jr_ast.specs.declared.name.TypeName.TheVariants.{Single, ArrayOf}
 use Rattle.jr_ast.specs.declared.operator.Infix.TheVariants.{Add, Greater}
 use Rattle.jr_ast.specs.declared.operator.AssignOp.TheVariants.{Assign}
-use Rattle.jr_ast.specs.declared.typed.ClauseKind.TheVariants as kinds
-use Rattle.jr_ast.specs.declared.typed.Comparison.TheVariants as comparisons
+use Rattle.jr_first_journal.specs.declared.typed.ClauseKind.TheVariants as kinds
+use Rattle.jr_first_journal.specs.declared.typed.Comparison.TheVariants as comparisons
 use Rattle.jr_ast.specs.declared.unit.Modifier.{Modifier}
 use Rattle.jr_ast.specs.declared.unit.ModifierKind.{ModifierKind}
 use Rattle.jr_ast.specs.declared.unit.ModifierKind.TheVariants.{Public, Static}
@@ -19,7 +19,7 @@ use Rattle.jr_ast.specs.Expressions.{Expr, Integer, SimpleName, Call, Infixed, A
 use Rattle.jr_ast.specs.Statements.{Value, Expression, Print, Return, no_stmt, and_stmt}
 use Rattle.jr_ast.specs.Clauses.{Requires}
 use Rattle.jr_ast.specs.Units.{Class, Member, OfField, OfMethod}
-use Rattle.jr_ast.specs.Programs.{Number, Local, Field as StaticField, Plus, CallOf, SetField, Do, Println, and_then, no_more}
+use Rattle.jr_first_journal.specs.Programs.{Number, Local, Field as StaticField, Plus, CallOf, SetField, Do, Println, and_then, no_more}
 use Rattle.jr_first_path.specs.Scopes.{known_types, known_methods, place_among, variable_named}
 use Rattle.jr_first_path.specs.Sums.{relation}
 use Rattle.jr_first_path.specs.Bodies.{effect, print, and_stands}

@@ -9,7 +9,7 @@ use Rattle.jr_ast.specs.declared.unit.FieldDeclarator.{FieldDeclarator}
 use Rattle.jr_ast.specs.Expressions.{Expr as Source, Exprs as Sources, Integer, SimpleName, Call, Infixed, Assignment, no_expr, and_expr}
 use Rattle.jr_ast.specs.Statements.{Stmt, Stmts, Part, Value, Expression, Print, Return}
 use Rattle.jr_ast.specs.Units.{Class, Member, Method, Empty, OfField, OfMethod, OfClause}
-use Rattle.jr_ast.specs.Programs.{Expr, Number, Statement, Println, Method as ProgramMethod, exprs}
+use Rattle.jr_first_journal.specs.Programs.{Expr, Number, Statement, Println, Method as ProgramMethod, exprs}
 use Rattle.jr_first_path.specs.Answers.{◌>>=◌, one_by_one}
 use Rattle.jr_first_path.specs.Scopes.{Text, Signature, Scope, Variable, OfFormal, OfField as OfStaticField, variable_named, method_named, value_of, assignment_of, is_among}
 use Rattle.jr_first_path.specs.Sums.{Invocation, int_of, invoked, call_with, with_result, call_of, joined, deeper, sum, sums, within, value, terms}

@@ -9,9 +9,9 @@ use Rattle.jr_ast.specs.declared.expr.Expr.{Expr as ExprTree, out-Expr}
 use Rattle.jr_ast.specs.declared.expr.Shape.{Shape}
 use Rattle.jr_ast.specs.declared.expr.Shape.TheVariants as shape
 use Rattle.jr_ast.specs.declared.expr.Suffix.{Suffix as SuffixTree}
-use Rattle.jr_ast.specs.declared.typed.TypedExpr.{TypedExpr}
+use Rattle.jr_first_journal.specs.declared.typed.TypedExpr.{TypedExpr}
 use Rattle.jr_ast.specs.Expressions.{Expr, Suffix, Field, Invocation, Index, Call, exprs, applied, onto, view_expr, view_shape, view_suffix}
-use Rattle.jr_ast.specs.Programs.{Expr as TypedNode, expr_view}
+use Rattle.jr_first_journal.specs.Programs.{Expr as TypedNode, expr_view}
 use Rattle.jr_ast.proofs.Views.{view_node, view_call, view_suffixed}
 use Rattle.jr_first_path.specs.Answers.{Answers}
 use Rattle.jr_first_path.specs.Scopes.{Scope}

@@ -6,7 +6,7 @@ use Rattle.jr_base.specs.declared.refusal.Fail.{Fail}
 use Rattle.jr_base.specs.declared.refusal.Fail.TheVariants.{Refused, Memory}
 use Rattle.jr_ast.specs.declared.expr.Expr.{Expr as ExprTree}
 use Rattle.jr_ast.specs.Expressions.{exprs, view_expr}
-use Rattle.jr_ast.specs.Programs.{Expr}
+use Rattle.jr_first_journal.specs.Programs.{Expr}
 use Rattle.jr_ast.specs.Statements.{Stmt, stmts}
 use Rattle.jr_first_path.specs.Bodies.{all_of}
 use Rattle.jr_first_path.specs.Answers.{◌>>=◌, one_by_one, Fails}

@@ -5,7 +5,7 @@ use Rattle.jr_ast.specs.declared.operator.AssignOp.{AssignOp}
 use Rattle.jr_ast.specs.declared.operator.AssignOp.TheVariants as assigns
 use Rattle.jr_ast.specs.Expressions.{Expr as Source, Exprs as Sources, SimpleName, Call, Assignment}
 use Rattle.jr_ast.specs.Statements.{Stmt, Stmts, Part, Value, Expression, Return, Print, no_stmt, and_stmt}
-use Rattle.jr_ast.specs.Programs.{Expr, Statement, Do, Println, exprs}
+use Rattle.jr_first_journal.specs.Programs.{Expr, Statement, Do, Println, exprs}
 use Rattle.jr_first_path.specs.Answers.{◌>>=◌, one_by_one}
 use Rattle.jr_first_path.specs.Scopes.{Scope, Variable, variable_named, method_named, assignment_of}
 use Rattle.jr_first_path.specs.Sums.{Invocation, call_with, sums, value}

@@ -9,7 +9,7 @@ use Rattle.jr_ast.specs.declared.name.ElementType.{ElementType}
 use Rattle.jr_ast.specs.declared.name.ElementType.TheVariants as elements
 use Rattle.jr_ast.specs.declared.name.TypeName.{TypeName}
 use Rattle.jr_ast.specs.declared.name.TypeName.TheVariants.{Single, ArrayOf}
-use Rattle.jr_ast.specs.declared.typed.ClauseKind.TheVariants as kinds
+use Rattle.jr_first_journal.specs.declared.typed.ClauseKind.TheVariants as kinds
 use Rattle.jr_ast.specs.declared.unit.Modifier.{Modifier}
 use Rattle.jr_ast.specs.declared.unit.ModifierKind.{ModifierKind}
 use Rattle.jr_ast.specs.declared.unit.ModifierKind.TheVariants as modifiers
@@ -23,7 +23,7 @@ use Rattle.jr_ast.specs.declared.unit.MethodKind.{MethodKind}
 use Rattle.jr_ast.specs.declared.unit.MethodKind.TheVariants as results
 use Rattle.jr_ast.specs.Clauses.{MethodClause, Requires}
 use Rattle.jr_ast.specs.Units.{Method, Member, Empty, OfField, OfMethod, OfClause}
-use Rattle.jr_ast.specs.Programs.{Program, Relation, Clause as ProgramClause}
+use Rattle.jr_first_journal.specs.Programs.{Program, Relation, Clause as ProgramClause}
 use Rattle.jr_first_path.specs.Answers.{◌>>=◌, one_by_one}
 use Rattle.jr_first_path.specs.Scopes.{Text, Signature, Scope, is_among, is_distinct, known_methods, method_named}
 use Rattle.jr_first_path.specs.Sums.{int_of, relation}

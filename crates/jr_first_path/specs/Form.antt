@@ -4,8 +4,8 @@ use Rattle.jr_base.specs.declared.refusal.Refusal.{Refusal}
 use Rattle.jr_base.specs.declared.refusal.Refusal.TheVariants.{NoMain, NotBuilt}
 use Rattle.jr_base.specs.declared.refusal.Fail.{Fail}
 use Rattle.jr_base.specs.declared.refusal.Fail.TheVariants.{Refused, Memory}
-use Rattle.jr_ast.specs.declared.typed.TypedUnit.{TypedUnit}
-use Rattle.jr_ast.specs.Programs.{Program, program_of}
+use Rattle.jr_first_journal.specs.declared.typed.TypedUnit.{TypedUnit}
+use Rattle.jr_first_journal.specs.Programs.{Program, program_of}
 use Rattle.jr_ast.specs.Units.{Class}
 use Rattle.jr_first_path.specs.Scopes.{is_among, known_types}
 use Rattle.jr_first_path.specs.Declarations.{Declared, nothing_declared, is_empty, with_members}

@@ -1,6 +1,6 @@
 -- What holds of each program of the form.
 use Rattle.std.specs.Prelude.{◌≡◌, ℕ, ◌+◌, ◌<◌, List, [], ◌∷◌, length, Option, Some, None}
-use Rattle.jr_ast.specs.Programs.{Expr, Exprs, Number, Local, Field, Plus, Minus, CallOf, no_more, and_then, Statement, SetLocal, SetField, Do, Println, Method, Program}
+use Rattle.jr_first_journal.specs.Programs.{Expr, Exprs, Number, Local, Field, Plus, Minus, CallOf, no_more, and_then, Statement, SetLocal, SetField, Do, Println, Method, Program}
 use Rattle.jr_ast.specs.Units.{Class}
 use Rattle.jr_first_path.specs.Form.{OfProgram, form_of}
 

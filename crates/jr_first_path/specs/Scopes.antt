@@ -4,7 +4,7 @@ use Rattle.std.specs.List.{list_any}
 use Rattle.std.specs.Str.{bytes_eq}
 use Rattle.jr_base.specs.declared.number.FieldId.{FieldId}
 use Rattle.jr_base.specs.declared.number.MethodId.{MethodId}
-use Rattle.jr_ast.specs.Programs.{Expr, Local, Field, Statement, SetLocal, SetField}
+use Rattle.jr_first_journal.specs.Programs.{Expr, Local, Field, Statement, SetLocal, SetField}
 
 -- how a name is spelled: its bytes
 abbrev pub Text : Type 0

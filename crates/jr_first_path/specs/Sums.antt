@@ -4,10 +4,10 @@ use Rattle.jr_base.specs.declared.number.MethodId.{MethodId}
 use Rattle.jr_ast.specs.declared.literal.IntegerLiteral.{IntegerLiteral}
 use Rattle.jr_ast.specs.declared.operator.Infix.{Infix}
 use Rattle.jr_ast.specs.declared.operator.Infix.TheVariants as infixes
-use Rattle.jr_ast.specs.declared.typed.Comparison.{Comparison}
-use Rattle.jr_ast.specs.declared.typed.Comparison.TheVariants as comparisons
+use Rattle.jr_first_journal.specs.declared.typed.Comparison.{Comparison}
+use Rattle.jr_first_journal.specs.declared.typed.Comparison.TheVariants as comparisons
 use Rattle.jr_ast.specs.Expressions.{Expr as Source, Exprs as Sources, Integer, SimpleName, Call, Infixed, no_expr, and_expr}
-use Rattle.jr_ast.specs.Programs.{Expr, Number, Plus, Minus, CallOf, Relation, exprs}
+use Rattle.jr_first_journal.specs.Programs.{Expr, Number, Plus, Minus, CallOf, Relation, exprs}
 use Rattle.jr_first_path.specs.Answers.{◌>>=◌}
 use Rattle.jr_first_path.specs.Scopes.{Signature, Scope, variable_named, method_named, value_of}
 

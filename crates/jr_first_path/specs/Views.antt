@@ -3,7 +3,7 @@ use Rattle.std.specs.Prelude.{◌≡◌, ℕ, Bool, true, false, not, List, [], 
 use Rattle.std.specs.Borrow.{Bor}
 use Rattle.std.specs.Str.{bytes_eq}
 use Rattle.jr_ast.specs.declared.unit.Formal.{Formal}
-use Rattle.jr_ast.specs.Programs.{clause_view, expr_view, program_of, statement_view}
+use Rattle.jr_first_journal.specs.Programs.{clause_view, expr_view, program_of, statement_view}
 use Rattle.jr_ast.specs.Expressions.{Expr, SimpleName, Call, Infixed, Assignment, exprs, place_of, view_expr}
 use Rattle.jr_first_path.specs.declared.parts.Parts.{Parts}
 use Rattle.jr_first_path.specs.declared.parts.Parts.TheVariants as parts

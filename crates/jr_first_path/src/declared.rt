@@ -13,10 +13,9 @@ use crate::scope::{Scope, Signature, is_known_method, method_named, number};
 use crate::specs::{Specs, specs_of};
 use crate::sum::int_of;
 use indexmap::IndexSet;
-use jr_ast::{
-    Constant, ConstantValue, Field, FieldDeclarator, Member, Method, TypedMethod, TypedUnit,
-};
+use jr_ast::{Constant, ConstantValue, Field, FieldDeclarator, Member, Method};
 use jr_base::{Fail, Memory, MethodId, Places};
+use jr_first_journal::{TypedMethod, TypedUnit};
 use sqlite_items::Items;
 use std::alloc::Global;
 

@@ -25,8 +25,9 @@ mod tests;
 use crate::answer::NOT_BUILT;
 use crate::declared::Declared;
 use crate::scope::is_known_type;
-use jr_ast::{Class, TypedUnit, Unit};
+use jr_ast::{Class, Unit};
 use jr_base::{Fail, Places, Refusal};
+use jr_first_journal::TypedUnit;
 use std::alloc::Global;
 
 /// The program that a unit is, if it is of the form that can be run yet. `bytes` are those of the source: the

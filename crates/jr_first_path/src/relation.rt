@@ -1,7 +1,7 @@
 //! What a clause asks: a comparison.
 
 ghost use Rattle.jr_ast.specs.Expressions.{view_expr};
-ghost use Rattle.jr_ast.specs.Programs.{relation_view};
+ghost use Rattle.jr_first_journal.specs.Programs.{relation_view};
 ghost use Rattle.jr_first_path.specs.Answers.{Answers};
 ghost use Rattle.jr_first_path.specs.Sums as spec;
 ghost use Rattle.jr_first_path.specs.Views.{view_scope};
@@ -10,8 +10,9 @@ use crate::answer::NOT_BUILT;
 use crate::parts::{Parts, parts_of};
 use crate::scope::Scope;
 use crate::sum::value;
-use jr_ast::{Comparison, Expr, Infix, Relation};
+use jr_ast::{Expr, Infix};
 use jr_base::Fail;
+use jr_first_journal::{Comparison, Relation};
 use std::alloc::Global;
 
 /// A comparison of two expressions without calls.

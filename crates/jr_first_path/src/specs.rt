@@ -10,8 +10,9 @@ ghost use Rattle.jr_first_path.specs.Views.{view_scope, view_specs};
 use crate::answer::NOT_BUILT;
 use crate::relation::relation;
 use crate::scope::{Scope, number};
-use jr_ast::{ClauseKind, MethodClause, MethodForm, SpecExpr, TypedSpec};
+use jr_ast::{MethodClause, MethodForm, SpecExpr};
 use jr_base::{ClauseId, Fail, Places, Span};
+use jr_first_journal::{ClauseKind, TypedSpec};
 use sqlite_items::Items;
 use std::alloc::Global;
 

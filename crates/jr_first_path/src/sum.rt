@@ -3,7 +3,7 @@
 ghost use Rattle.std.specs.Prelude.{◌≡◌, ◌<◌, ◌-◌, map, option_map};
 ghost use Rattle.jr_base.specs.declared.number.Span.{Span as Place};
 ghost use Rattle.jr_ast.specs.Expressions.{Call, exprs, view_expr, view_shape};
-ghost use Rattle.jr_ast.specs.Programs.{Number, expr_view};
+ghost use Rattle.jr_first_journal.specs.Programs.{Number, expr_view};
 ghost use Rattle.jr_first_path.specs.Answers.{Answers};
 ghost use Rattle.jr_first_path.specs.Scopes as scopes;
 ghost use Rattle.jr_first_path.specs.Sums as spec;
@@ -11,8 +11,9 @@ ghost use Rattle.jr_first_path.specs.Views.{view_invocation, view_scope, view_si
 
 use crate::answer::NOT_BUILT;
 use crate::scope::{Scope, Signature, Variable, method_named};
-use jr_ast::{Expr, Infix, IntegerLiteral, Name, Shape, TypedExpr, TypedShape};
+use jr_ast::{Expr, Infix, IntegerLiteral, Name, Shape};
 use jr_base::{Fail, MethodId};
+use jr_first_journal::{TypedExpr, TypedShape};
 use sqlite_items::Items;
 use std::alloc::Global;
 

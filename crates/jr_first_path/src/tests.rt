@@ -1,11 +1,11 @@
 use super::*;
 use jr_ast::{
-    Comparison, Constant, ConstantValue, ElementType, Expr, Field, FieldDeclarator, Form, Formal,
-    Infix, IntegerLiteral, Member, Method, MethodClause, MethodForm, MethodKind, Modifier,
-    ModifierKind, Name, Part, Shape, SpecExpr, Stmt, TypeName, TypedExpr, TypedShape,
-    TypedStatement,
+    Constant, ConstantValue, ElementType, Expr, Field, FieldDeclarator, Form, Formal, Infix,
+    IntegerLiteral, Member, Method, MethodClause, MethodForm, MethodKind, Modifier, ModifierKind,
+    Name, Part, Shape, SpecExpr, Stmt, TypeName,
 };
 use jr_base::{ClauseId, FieldId, Memory, MethodId, Position, Span};
+use jr_first_journal::{Comparison, TypedExpr, TypedShape, TypedStatement};
 use sqlite_items::Items;
 
 fn at(start: u32) -> Span {

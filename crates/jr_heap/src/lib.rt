@@ -11,5 +11,5 @@ mod snapshot;
 mod tests;
 
 pub use layout::{Layout, Place};
-pub use plain::PlainHeap;
+pub use plain::{PlainHeap, PlainReader};
 pub use snapshot::Snapshot;

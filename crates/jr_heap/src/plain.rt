@@ -82,16 +82,11 @@ impl PlainHeap {
             self.values[at as usize] = value;
         }
     }
-}
 
-impl Snapshot for PlainHeap {
-    ghost use Rattle.jr_heap.specs.Lengths.{lengths};
-
-    ghost shown = { seen_in };
-
-    ghost lengths = { lengths };
-
-    fn ask(&mut self, what: Ask) -> Seen {
+    /// What the heap has there, as `ask` answers it, of a heap that is lent to be read. Takes no memory.
+    pub fn see(&self, what: Ask) -> Seen
+        ensures { result ≡ seen_in self.now what }
+    {
         match what {
             Ask::Cell(cell) => match self.layout.cell(cell) {
                 Some(at) => Seen::Value(self.values[at as usize]),
@@ -102,5 +97,35 @@ impl Snapshot for PlainHeap {
                 _ => Seen::Absent,
             },
         }
+    }
+}
+
+impl Snapshot for PlainHeap {
+    ghost use Rattle.jr_heap.specs.Lengths.{lengths};
+
+    ghost shown = { seen_in };
+
+    ghost lengths = { lengths };
+
+    fn ask(&mut self, what: Ask) -> Seen {
+        self.see(what)
+    }
+}
+
+/// A plain heap that is lent to be read: several readers may read one heap, and it stays as it is.
+#[derive(Clone, Copy)]
+pub struct PlainReader<'a> {
+    pub heap: &'a PlainHeap,
+}
+
+impl Snapshot for PlainReader<'_> {
+    ghost use Rattle.jr_heap.specs.Lengths.{lengths};
+
+    ghost shown = { λ reader. seen_in reader.heap.now };
+
+    ghost lengths = { λ reader. lengths reader.heap.now };
+
+    fn ask(&mut self, what: Ask) -> Seen {
+        self.heap.see(what)
     }
 }

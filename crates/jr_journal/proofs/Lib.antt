@@ -1,7 +1,3 @@
-pub mod Bounds
-pub mod Examples
-pub mod Histories
-pub mod JudgedRuns
-pub mod JudgedValues
-pub mod Judging
-pub mod Layouts
+pub mod Appended
+pub mod Indexing
+pub mod Kept

@@ -1,3 +1,3 @@
-pub mod Along
-pub mod Event
-pub mod FirstForm
+pub mod Entries
+pub mod Indexed
+pub mod Marks

@@ -1,10 +1,12 @@
-//! What a run is: the journal of its steps and verdicts, and the definitions that say which journals are
-//! right. Its one promise: a journal is the list of what was pushed.
-//! `specs/` has its entries as plain data and, in `FirstForm`, the guest machine of the form that runs today:
-//! the world, a guest's next action, legal histories, right verdicts, true finishes and right records.
+//! The journal of a run: every step, verdict and wake-up, in the order in which they were made. Its one promise: a
+//! journal is the list of what was pushed, and where a step and a verdict stand in it is found at once.
+//! What its entries are as plain data stands in `specs/Entries.antt`.
 #![tactic(auto)]
 
-pub mod journal;
-pub mod laws;
+mod index;
+mod journal;
+mod marks;
+#[cfg(test)]
+mod tests;
 
 pub use journal::{Entry, Journal, Opening, RunRecord};

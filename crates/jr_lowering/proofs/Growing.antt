@@ -1,5 +1,5 @@
 -- The lists that instructions name places of, as they grow.
-use Rattle.std.proofs.Common.{◌≡◌, ◌≢◌, ℕ, ℤ, zero, suc, List, [], ◌∷◌, ◌++◌, length, map, Option, Some, slice_get, refl, sym, ap, ◌∙◌, subst, append_assoc, append-nil}
+use Rattle.std.proofs.Common.{◌≡◌, ℤ, List, [], ◌∷◌, ◌++◌, length, map, Option, Some, slice_get, refl, sym, ap, ◌∙◌, append_assoc, append-nil}
 use Rattle.std.proofs.lemmas.List.{map-append}
 use Rattle.jr_base.specs.Spare.{Spare}
 use Rattle.jr_base.specs.declared.number.ClassId.{ClassId}
@@ -8,7 +8,6 @@ use Rattle.jr_base.specs.declared.action.Elem.{Elem}
 use Rattle.jr_base.specs.declared.action.NewKind.{NewKind}
 use Rattle.jr_base.specs.declared.finish.Fault.{Fault}
 use Rattle.jr_code.specs.declared.code.Code.{Code as CodeOfLists}
-use Rattle.jr_code.specs.declared.code.MethodCode.{MethodCode as MethodOfLists}
 use Rattle.jr_code.specs.declared.code.FieldCode.{FieldCode as FieldOfLists}
 use Rattle.jr_code.specs.declared.code.AssertCode.{AssertCode as AssertOfLists}
 use Rattle.jr_code.specs.Coded.{Tables, Begins, Grows}

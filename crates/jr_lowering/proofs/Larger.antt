@@ -1,5 +1,5 @@
 -- The larger of two numbers, and how many monitors stand in one another in a list.
-use Rattle.std.proofs.Common.{◌≡◌, ℕ, zero, suc, ◌+◌, ◌<◌, ◌≤◌, List, [], ◌∷◌, length, map, drop, get_or, refl, sym, ap, ◌∙◌, arith, drop-cons, drop_of_length-le, add-one}
+use Rattle.std.proofs.Common.{◌≡◌, ℕ, zero, suc, ◌+◌, ◌<◌, ◌≤◌, List, ◌∷◌, length, map, drop, get_or, refl, sym, ap, ◌∙◌, arith, drop-cons, drop_of_length-le, add-one}
 use Rattle.jr_program.specs.declared.stmt.TypedStmt.{TypedStmt}
 use Rattle.jr_program.specs.declared.stmt.TypedCatch.{TypedCatch}
 use Rattle.jr_program.specs.declared.stmt.TypedForm.TheFolds.{fold_out-TypedCatch}

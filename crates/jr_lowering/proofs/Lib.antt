@@ -1,3 +1,4 @@
+pub mod Crossing
 pub mod Effects
 pub mod Emits
 pub mod Encodes

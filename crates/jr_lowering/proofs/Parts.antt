@@ -1,5 +1,5 @@
 -- The code of what is printed, a part at a time.
-use Rattle.std.proofs.Common.{◌≡◌, ℕ, ◌+◌, List, [], ◌∷◌, ◌++◌, refl, sym, ap, ◌∙◌, arith, append_assoc, append-nil}
+use Rattle.std.proofs.Common.{◌≡◌, ℕ, ◌+◌, List, [], ◌∷◌, ◌++◌, sym, ap, ◌∙◌, arith, append-nil}
 use Rattle.jr_program.specs.Programs.{Program, Part, Literal, Shown}
 use Rattle.jr_lowering.specs.ExprCode.{Setting, expr_size, expr_code}
 use Rattle.jr_lowering.specs.StatementCode.{parts_size, parts_code}

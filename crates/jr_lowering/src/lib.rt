@@ -19,6 +19,7 @@ pub mod op;
 pub mod pieces;
 pub mod program;
 pub mod region;
+pub mod sharing;
 pub mod size;
 pub mod statement_size;
 pub mod stmt;

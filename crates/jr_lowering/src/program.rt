@@ -52,6 +52,13 @@ impl Program {
         &self.unit
     }
 
+    /// The typed unit alone. Takes no memory.
+    pub fn into_unit(self) -> TypedUnit
+        ensures { result ≡ self }
+    {
+        self.unit
+    }
+
     /// The code, whose instructions are those of the program. Takes no memory.
     pub fn code(&self) -> &Checked
         ensures { plain_of result.now ≡ code_of (program_of self.now) }

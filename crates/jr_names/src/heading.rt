@@ -1,34 +1,20 @@
 //! What stands before the body of a method.
 
-ghost use Rattle.std.specs.Prelude.{◌≡◌, []};
+ghost use Rattle.std.specs.Prelude.{◌≡◌, [], Err};
+ghost use Rattle.jr_base.specs.declared.refusal.Fail.TheVariants as fails;
 ghost use Rattle.jr_ast.specs.Units.{view_method};
-ghost use Rattle.jr_typing_rules.specs.Modifiers.{has, is_static_kind};
 ghost use Rattle.jr_typing_rules.specs.Resolution as spec;
 ghost use Rattle.jr_names.specs.Answered.{Answers};
 ghost use Rattle.jr_names.specs.Tables.{names_alone};
 
+use crate::modifiers::is_static;
 use crate::numbers::Numbers;
 use crate::table::Table;
-use jr_ast::{ElementType, Formal, Method, MethodKind, Modifier, ModifierKind, TypeName};
+use jr_ast::{ElementType, Formal, Method, MethodKind, TypeName};
 use jr_base::Fail;
 use jr_typing_rules::ValueType;
 use sqlite_items::Items;
 use std::alloc::Global;
-
-fn is_static_kind(kind: ModifierKind) -> bool
-    ensures { result ≡ is_static_kind kind }
-{
-    matches!(kind, ModifierKind::Static)
-}
-
-/// Whether `static` is among the modifiers (JLS 8.3.1.1, 8.4.3.2).
-pub fn is_static(modifiers: &[Modifier]) -> bool
-    ensures { result ≡ has is_static_kind modifiers.now }
-{
-    modifiers
-        .iter()
-        .any(|modifier| is_static_kind(modifier.kind))
-}
 
 fn is_string(of: &ElementType) -> bool
     ensures { result ≡ spec.is_string of.now }
@@ -57,7 +43,8 @@ fn takes_strings(formals: &[Formal]) -> bool
     }
 }
 
-fn is_void(kind: &MethodKind) -> bool
+/// Whether it is `void`.
+pub fn is_void(kind: &MethodKind) -> bool
     ensures { result ≡ spec.is_void kind.now }
 {
     matches!(kind, MethodKind::Void)
@@ -74,9 +61,10 @@ pub fn looks_like_main(method: &Method) -> bool
         && takes_strings(method.formals.as_slice())
 }
 
-/// The type of a method's result, if it has one. Refused as `Unknown` where it names no type.
+/// The type of a method's result, if it has one. Refused as `Unknown` where it names no type. Takes no memory.
 pub fn result_type(numbers: &Numbers<'_>, kind: &MethodKind) -> Result<Option<ValueType>, Fail>
-    ensures { Answers (λ t. t) (spec.result_type (names_alone numbers.now) kind.now) result }
+    ensures typed { Answers (λ t. t) (spec.result_type (names_alone numbers.now) kind.now) result }
+    ensures memory { ¬ (result ≡ Err fails.Memory) }
 {
     match kind {
         MethodKind::Valued(of) => Ok(Some(numbers.type_of(of)?)),

@@ -9,7 +9,8 @@ ghost use Rattle.jr_names.specs.Tables.{names_alone};
 ghost use Rattle.jr_names.specs.Views.{view_known};
 
 use crate::class::ClassEntry;
-use crate::heading::{formal_types, is_static, looks_like_main, result_type};
+use crate::heading::{formal_types, looks_like_main, result_type};
+use crate::modifiers::is_static;
 use crate::numbers::Numbers;
 use crate::words::is_library_method;
 use jr_ast::{Field, FieldDeclarator, Member, Method, MethodKind};

@@ -6,17 +6,20 @@ ghost use Rattle.jr_base.specs.declared.refusal.Fail.TheVariants as fails;
 ghost use Rattle.jr_typing_rules.specs.Names as spec;
 ghost use Rattle.jr_typing_rules.specs.Names.{Class as ClassOfRules};
 ghost use Rattle.jr_typing_rules.specs.Expressions as expressions;
+ghost use Rattle.jr_typing_rules.specs.Resolution as resolution;
 ghost use Rattle.jr_typing_rules.specs.Statements as statements;
 ghost use Rattle.jr_names.specs.Answered.{Answers};
 ghost use Rattle.jr_names.specs.Views.{view_class};
 
 use crate::class::ClassEntry;
+use crate::heading;
 use crate::numbers::Numbers;
 use crate::types::{is_int_to_long, is_null, is_reference, is_same};
-use jr_ast::{ElementType, TypeName};
+use jr_ast::{ElementType, Formal, MethodKind, TypeName};
 use jr_base::{ClassId, Elem, Fail, MethodId};
 use jr_typing_rules::{FieldEntry, MethodEntry, ValueType};
 use sqlite_items::Items;
+use std::alloc::Global;
 use std::marker::Model;
 
 /// The names of a source: its classes, their members, and which method is `main` (JLS 6, 12.1.4). Each look-up takes
@@ -192,5 +195,29 @@ impl<'a> Names<'a> {
         ensures memory { ¬ (result ≡ Err fails.Memory) }
     {
         self.numbers.type_of(of)
+    }
+
+    /// The type of a method's result, if it has one (JLS 8.4.5). Refused as `Unknown` where it is a name that no class
+    /// has. Takes no memory.
+    #[tactic(auto, using(crate::proofs::ByNumbers::result_by_numbers))]
+    pub fn result_type(&self, kind: &MethodKind) -> Result<Option<ValueType>, Fail>
+        ensures typed { Answers (λ t. t) (resolution.result_type self.now.names kind.now) result }
+        ensures memory { ¬ (result ≡ Err fails.Memory) }
+    {
+        heading::result_type(&self.numbers, kind)
+    }
+
+    /// The types of a method's formals; that of `main` has none. Refused as `Unknown` where one names no type, and as
+    /// `Duplicate` where one has the name of an earlier one (JLS 8.4.1).
+    #[tactic(auto, using(crate::proofs::ByNumbers::formals_by_numbers))]
+    pub fn formal_types(
+        &self,
+        alloc: Global,
+        is_main: bool,
+        formals: &[Formal],
+    ) -> Result<Items<ValueType>, Fail>
+        ensures { Answers (λ ts. ts) (resolution.formal_types self.now.names is_main formals.now) result }
+    {
+        heading::formal_types(alloc, &self.numbers, is_main, formals)
     }
 }

@@ -15,6 +15,8 @@ use std::process::Abort;
 
 const MARKED: Span = Span { start: 1, end: 2 };
 
+const ELSEWHERE: Span = Span { start: 0, end: 0 };
+
 const DUPLICATE: Option<Refusal> = Some(Refusal::Duplicate(MARKED));
 
 const UNKNOWN: Option<Refusal> = Some(Refusal::Unknown(MARKED));
@@ -24,7 +26,7 @@ const NO_MAIN: Option<Refusal> = Some(Refusal::NoMain);
 fn name(alloc: Global, word: &[u8]) -> Result<Name, Memory> {
     match word.strip_prefix(b"!".as_slice()) {
         Some(text) => Name::new(alloc, text, MARKED),
-        None => Name::new(alloc, word, Span { start: 0, end: 0 }),
+        None => Name::new(alloc, word, ELSEWHERE),
     }
 }
 
@@ -311,4 +313,46 @@ fn gives_the_names(rt: HostRuntime) {
         Ok(ValueType::Single(Elem::Long))
     );
     assert_eq!(rt; fault_named(b"Exception"), Some(Fault::Exception));
+}
+
+/// How many types formals have, or what refuses them.
+fn types_of_formals(alloc: Global, is_main: bool, words: &[&[u8]]) -> Result<usize, Fail> {
+    let unit = unit(alloc, b"A;main")?;
+    let names = resolve(alloc, &unit)?;
+    let formals = formals(alloc, words)?;
+    Ok(
+        names
+            .formal_types(alloc, is_main, formals.as_slice())?
+            .len(),
+    )
+}
+
+#[test]
+fn gives_the_types_of_headings(rt: HostRuntime) {
+    let alloc = rt.alloc();
+    let rows = [
+        (false, [b"int".as_slice(), b"x", b"A[]", b"y"], Ok(2)),
+        (true, [b"String[]".as_slice(), b"x", b"int", b"y"], Ok(0)),
+        (
+            false,
+            [b"String[]".as_slice(), b"x", b"!B", b"y"],
+            Err(Fail::Refused(Refusal::Unknown(ELSEWHERE))),
+        ),
+        (
+            false,
+            [b"int".as_slice(), b"x", b"int", b"!x"],
+            Err(Fail::Refused(Refusal::Duplicate(MARKED))),
+        ),
+    ];
+    for (is_main, words, want) in rows {
+        assert_eq!(rt; types_of_formals(alloc, is_main, words.as_slice()), want);
+    }
+    let unit = unit(alloc, b"A;main").expect(&rt, "memory");
+    let names = resolve(alloc, &unit).expect(&rt, "names");
+    let long = TypeName::Single(ElementType::Long);
+    assert_eq!(rt;
+        names.result_type(&MethodKind::Valued(long)),
+        Ok(Some(ValueType::Single(Elem::Long)))
+    );
+    assert_eq!(rt; names.result_type(&MethodKind::Void), Ok(None));
 }

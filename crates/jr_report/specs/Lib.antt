@@ -1,4 +1,8 @@
-pub mod Fits
-pub mod Passing
+pub mod Adding
+pub mod Judged
+pub mod Listing
+pub mod OpenCalls
 pub mod Refusals
 pub mod Report
+pub mod Sites
+pub mod Started

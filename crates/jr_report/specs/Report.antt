@@ -1,9 +1,13 @@
--- The text of a report, line by line.
-use Rattle.std.specs.Prelude.{ℕ, zero, suc, ◌+◌, true, false, List, [], ◌∷◌, ◌++◌, length, flat_map, codes, decimal, sum_by, Option, Some, None}
+-- The text of a run's report, line by line.
+use Rattle.std.specs.Prelude.{ℕ, ◌+◌, true, false, List, [], ◌∷◌, ◌++◌, length, map, flat_map, codes, decimal, sum_by, Option, Some, None, slice_get}
+use Rattle.std.specs.Option.{option_map_or}
+use Rattle.std.specs.List.{range_with_len}
 use Rattle.std.specs.Fmt.{signed_decimal}
 use Rattle.jr_base.specs.Deed.{Print, End}
 use Rattle.jr_base.specs.declared.number.ClauseId.{ClauseId}
 use Rattle.jr_base.specs.declared.number.GuestNo.{GuestNo}
+use Rattle.jr_base.specs.declared.number.Position.{Position}
+use Rattle.jr_base.specs.declared.number.TextId.{TextId}
 use Rattle.jr_base.specs.declared.action.PrintPart.{PrintPart}
 use Rattle.jr_base.specs.declared.action.PrintPart.TheVariants.{Text, Val}
 use Rattle.jr_base.specs.declared.action.EndHow.TheVariants as ends
@@ -17,14 +21,18 @@ use Rattle.jr_base.specs.declared.finish.LimitKind.{LimitKind}
 use Rattle.jr_base.specs.declared.finish.LimitKind.TheVariants as kinds
 use Rattle.jr_base.specs.declared.finish.Verdict.{Verdict}
 use Rattle.jr_base.specs.declared.finish.Verdict.TheVariants as verdicts
-use Rattle.jr_ast.specs.declared.typed.ClauseKind.{ClauseKind}
-use Rattle.jr_ast.specs.declared.typed.ClauseKind.TheVariants.{Requires}
-use Rattle.jr_journal.specs.Event.{Event, Step, Judged}
-use Rattle.jr_ast.specs.Programs.{Program, Clause, clause_at}
-use Rattle.jr_journal.specs.FirstForm.History.{world_after, step_count, steps_in}
-use Rattle.jr_journal.specs.FirstForm.Verdicts.{Moment, due_at, moment_of, verdict_of}
+use Rattle.jr_program.specs.declared.words.ClauseKind.{ClauseKind}
+use Rattle.jr_program.specs.declared.words.ClauseKind.TheVariants as clauses
+use Rattle.jr_program.specs.Clauses.{Clause}
+use Rattle.jr_program.specs.Programs.{Program, clause_at}
+use Rattle.jr_meaning.specs.Event.{Event, Step, Judged}
+use Rattle.jr_meaning.specs.History.{world_after, step_count, steps_in}
+use Rattle.jr_meaning.specs.Due.{Due}
+use Rattle.jr_meaning.specs.Verdicts.{Moment, due_at, moment_of, verdict_of}
 
--- what println writes of a value: no program prints a reference
+-- ---- prints
+
+-- what println writes of a value (JLS 5.1.11, 15.18.1); no program prints a reference
 abbrev pub value_text : Value → List ℕ
 value_text (values.Int n) = signed_decimal n
 value_text (values.Long n) = signed_decimal n
@@ -33,22 +41,25 @@ value_text (values.Bool false) = codes "false"
 value_text values.Null = []
 value_text (values.Ref object) = []
 
--- what println writes of a part. A program that can be run yet has no string literal.
-abbrev pub part_text : PrintPart → List ℕ
-part_text (Val value) = value_text value
-part_text (Text text) = []
+-- the bytes that a string literal stands for (JLS 3.10.5)
+abbrev pub literal_text : Program → TextId → List ℕ
+literal_text program text = option_map_or (λ (bytes : List ℕ). bytes) (slice_get program.texts text.0) []
 
-abbrev pub out_line : GuestNo → List PrintPart → List ℕ
-out_line g parts = codes "out " ++ decimal g.0 ++ codes ": " ++ flat_map part_text parts
+abbrev pub part_text : Program → PrintPart → List ℕ
+part_text program (Val value) = value_text value
+part_text program (Text text) = literal_text program text
+
+abbrev pub out_line : Program → GuestNo → List PrintPart → List ℕ
+out_line program g parts = codes "out " ++ decimal g.0 ++ codes ": " ++ flat_map (part_text program) parts
 
 -- a line for each Print
-abbrev pub out_lines_of : Event → List (List ℕ)
-out_lines_of (Step g (Print parts) reply) = out_line g parts ∷ []
-out_lines_of _ = []
+abbrev pub out_lines_of : Program → Event → List (List ℕ)
+out_lines_of program (Step g (Print parts) reply) = out_line program g parts ∷ []
+out_lines_of program _ = []
 
 -- in the order of steps
-abbrev pub out_lines : List Event → List (List ℕ)
-out_lines h = flat_map out_lines_of h
+abbrev pub out_lines : Program → List Event → List (List ℕ)
+out_lines program h = flat_map (out_lines_of program) h
 
 -- ---- violations
 
@@ -70,22 +81,30 @@ abbrev pub violations_from : List Event → GuestNo → ℕ → ℕ → List Cla
 violations_from h g k place [] = []
 violations_from h g k place (clause ∷ clauses) = violation_in clause g k (verdict_of h k place) ++ violations_from h g k (place + 1) clauses
 
--- of step k, if that is its moment
-abbrev pub violations_at : Program → List Event → ℕ → Option Moment → List Violation
-violations_at program h k None = []
-violations_at program h k (Some moment) = violations_from h moment.guest k 0 (due_at program moment)
+-- the clauses due at a moment, in order
+abbrev pub clauses_due : Program → Moment → List ClauseId
+clauses_due program moment = map (λ (d : Due). d.clause) (due_at program moment)
 
--- of the first n steps, by step
-abbrev pub violations_before : Program → List Event → ℕ → List Violation
-violations_before program h zero = []
-violations_before program h (suc n) = violations_before program h n ++ violations_at program h n (moment_of h n)
+-- of step k
+abbrev pub violations_at : Program → List Event → ℕ → List Violation
+violations_at program h k =
+    option_map_or (λ (moment : Moment). violations_from h moment.guest k 0 (clauses_due program moment)) (moment_of h k) []
 
 -- by step and place, in whatever order they were judged
 abbrev pub violations : Program → List Event → List Violation
-violations program h = violations_before program h (step_count h)
+violations program h = flat_map (violations_at program h) (range_with_len 0 (step_count h))
 
+-- a clause is called by its keyword (JML Reference Manual)
 abbrev pub clause_kind_text : ClauseKind → List ℕ
-clause_kind_text Requires = codes "requires"
+clause_kind_text clauses.Requires = codes "requires"
+clause_kind_text clauses.Ensures = codes "ensures"
+clause_kind_text clauses.When = codes "when"
+clause_kind_text clauses.Locks = codes "locks"
+clause_kind_text clauses.MonitorsFor = codes "monitors_for"
+clause_kind_text clauses.Invariant = codes "invariant"
+clause_kind_text clauses.Constraint = codes "constraint"
+clause_kind_text clauses.Assert = codes "assert"
+clause_kind_text clauses.Atomic = codes "atomic"
 
 abbrev pub verdict_text : Verdict → List ℕ
 verdict_text verdicts.True = codes "True"
@@ -93,13 +112,16 @@ verdict_text verdicts.False = codes "False"
 verdict_text verdicts.Undefined = codes "Undefined"
 verdict_text verdicts.Wide = codes "Wide"
 
+-- line and column, columns in bytes
+abbrev pub position_text : Position → List ℕ
+position_text place = decimal place.line ++ codes ":" ++ decimal place.column
+
 -- A clause with its value, and where its keyword stands. A clause that is due is there in each program that
 -- passed the checks.
 abbrev pub clause_text : Option Clause → Verdict → List ℕ
 clause_text None value = []
 clause_text (Some clause) value =
-    clause_kind_text clause.kind ++ codes " " ++ verdict_text value
-    ++ codes " at " ++ decimal clause.place.line ++ codes ":" ++ decimal clause.place.column
+    clause_kind_text clause.kind ++ codes " " ++ verdict_text value ++ codes " at " ++ position_text clause.place
 
 abbrev pub violation_line : Program → ℕ → Violation → List ℕ
 violation_line program n violation =
@@ -143,6 +165,8 @@ abbrev pub uncaught_lines : ℕ → List Event → List (List ℕ)
 uncaught_lines k [] = []
 uncaught_lines k (e ∷ h) = uncaught_lines_of k e ++ uncaught_lines (k + steps_in e) h
 
+-- ---- the end
+
 abbrev pub kind_text : LimitKind → List ℕ
 kind_text kinds.Guests = codes "guests"
 kind_text kinds.Frames = codes "frames"
@@ -159,14 +183,14 @@ finish_line (Limit kind g count) =
 finish_line Memory = codes "finish Memory"
 
 abbrev pub verdicts_in : Event → ℕ
-verdicts_in (Step g deed reply) = 0
 verdicts_in (Judged step place value) = 1
+verdicts_in _ = 0
 
 -- a verdict other than True is a violation
 abbrev pub violations_in : Event → ℕ
-violations_in (Step g deed reply) = 0
 violations_in (Judged step place verdicts.True) = 0
 violations_in (Judged step place _) = 1
+violations_in _ = 0
 
 -- whether an exception ended a guest
 abbrev pub uncaught_in : Event → ℕ
@@ -181,16 +205,21 @@ summary_text steps guests verdicts violations uncaught =
     ++ codes ", violations " ++ decimal violations
     ++ codes ", uncaught " ++ decimal uncaught
 
--- what was counted
+-- What was counted: the guests are those that were started, main's among them.
 abbrev pub summary_line : Program → List Event → List ℕ
 summary_line program h =
     summary_text (step_count h) (length (world_after program h).guests) (sum_by verdicts_in h) (sum_by violations_in h) (sum_by uncaught_in h)
 
+-- ---- the whole
+
 -- the lines of a report, in order
-abbrev pub report : Program → List Event → Finish → List (List ℕ)
-report program h finish =
-    out_lines h ++ violation_lines program h ++ uncaught_lines 0 h ++ finish_line finish ∷ summary_line program h ∷ []
+abbrev pub report_lines : Program → List Event → Finish → List (List ℕ)
+report_lines program h finish =
+    out_lines program h ++ violation_lines program h ++ uncaught_lines 0 h ++ finish_line finish ∷ summary_line program h ∷ []
 
 -- lines as bytes: each is ended by a line feed
 abbrev pub bytes_of_lines : List (List ℕ) → List ℕ
 bytes_of_lines lines = flat_map (λ line. line ++ 10 ∷ []) lines
+
+abbrev pub report : Program → List Event → Finish → List ℕ
+report program h finish = bytes_of_lines (report_lines program h finish)

@@ -1,13 +1,15 @@
 //! One line of a report, in a buffer of its own: writing a report takes no memory.
 
 ghost use Rattle.std.specs.Prelude.{◌≡◌, ◌+◌, ◌≤◌, [], ◌∷◌, ◌++◌, length, decimal};
-ghost use Rattle.std.specs.Fmt.{signed_decimal};
+ghost use Rattle.jr_io.specs.Writes.{CountsPieceFault};
+ghost use Rattle.jr_report.specs.Adding.{Adds};
 
 use arrayvec::ArrayVec;
 use itoa::Buffer;
+use jr_io::{Piece, Sink, write_piece};
 use std::marker::Model;
 
-/// The longest line, with its line feed: a print of 8 parts of 256 bytes each.
+/// A line up to this length is written in one piece: so each print of 8 parts of 256 bytes.
 pub const LINE_LENGTH: usize = 2_304;
 
 /// A line that is being put together. Contracts see its bytes.
@@ -58,20 +60,10 @@ impl Line {
         self.text(digits.format(n));
     }
 
-    /// Adds an `int` in decimal.
-    pub fn int(&mut self, n: i32)
-        requires { length self.old + 11 ≤ LINE_LENGTH }
-        ensures bytes { self.new ≡ self.old ++ signed_decimal n }
-        ensures len { length self.new ≤ length self.old + 11 }
-    {
-        let mut digits = Buffer::new();
-        self.text(digits.format(n));
-    }
-
-    /// Adds a `long` in decimal.
-    pub fn long(&mut self, n: i64)
+    /// Adds a number of 64 bits in decimal.
+    pub fn long_number(&mut self, n: u64)
         requires { length self.old + 20 ≤ LINE_LENGTH }
-        ensures bytes { self.new ≡ self.old ++ signed_decimal n }
+        ensures bytes { self.new ≡ self.old ++ decimal n }
         ensures len { length self.new ≤ length self.old + 20 }
     {
         let mut digits = Buffer::new();
@@ -82,5 +74,33 @@ impl Line {
         ensures { result.now ≡ self.now }
     {
         self.bytes.as_slice()
+    }
+
+    /// Adds bytes of any number. Where there is no room for them, what the line has is written first, and then they.
+    pub fn add<K: Sink>(&mut self, bytes: &[u8], sink: &mut K) -> Piece
+        ensures bytes { Adds (K.written sink.old) (K.written sink.new) self.old self.new result bytes.now }
+        ensures never_falls { K.faults sink.old ≤ K.faults sink.new }
+        ensures faults { CountsPieceFault (K.faults sink.old) (K.faults sink.new) result }
+    {
+        if bytes.len() > self.bytes.remaining_capacity() {
+            return self.write_out(bytes, sink);
+        }
+        self.bytes.try_extend_from_slice(bytes).unwrap();
+        Piece::Whole
+    }
+
+    // Writes what the line has, and these bytes behind it.
+    fn write_out<K: Sink>(&mut self, bytes: &[u8], sink: &mut K) -> Piece
+        ensures bytes { Adds (K.written sink.old) (K.written sink.new) self.old self.new result bytes.now }
+        ensures never_falls { K.faults sink.old ≤ K.faults sink.new }
+        ensures faults { CountsPieceFault (K.faults sink.old) (K.faults sink.new) result }
+    {
+        match write_piece(sink, self.as_bytes()) {
+            Piece::Whole => {
+                self.clear();
+                write_piece(sink, bytes)
+            }
+            Piece::WriteFault => Piece::WriteFault,
+        }
     }
 }

@@ -1,3 +1,4 @@
+pub mod Halting
 pub mod Operators
 pub mod Places
 pub mod Replies

@@ -1,5 +1,5 @@
 -- Replies that are none of those that an instruction minds.
-use Rattle.std.proofs.Common.{◌≡◌, ℕ, ◌+◌, ℤ, pos, List, ◌∷◌, Option, refl}
+use Rattle.std.proofs.Common.{◌≡◌, ℕ, ◌+◌, pos, List, ◌∷◌, Option, refl}
 use Rattle.jr_base.specs.declared.number.MethodId.{MethodId}
 use Rattle.jr_base.specs.declared.number.ObjId.{ObjId}
 use Rattle.jr_base.specs.declared.action.Reply.{Reply}

@@ -1,16 +1,15 @@
 -- What the machine comes to after a reply.
-use Rattle.std.proofs.Common.{◌≡◌, ℕ, ◌+◌, Bool, true, false, List, [], ◌∷◌, refl, sym, subst}
+use Rattle.std.proofs.Common.{◌≡◌, ◌+◌, Bool, true, false, List, [], ◌∷◌, sym, subst}
 use Rattle.std.specs.Prelude.{MatchBool}
 use Rattle.jr_base.specs.Deed as deeds
-use Rattle.jr_base.specs.declared.number.MethodId.{MethodId}
 use Rattle.jr_base.specs.declared.number.ObjId.{ObjId}
 use Rattle.jr_base.specs.declared.action.Action.TheVariants as actions
 use Rattle.jr_base.specs.declared.action.EndHow.TheVariants as ends
 use Rattle.jr_base.specs.declared.value.Value.{Value}
 use Rattle.jr_base.specs.declared.finish.Fault.{Fault}
-use Rattle.jr_base.specs.Content.{Content, Holds}
+use Rattle.jr_base.specs.Content.{Holds}
 use Rattle.jr_code.specs.Instructions.{Code}
-use Rattle.jr_code.specs.Machine.{StackFrame, stack_frame, State, Runs, Makes, Over, Goes, on, throw_at}
+use Rattle.jr_code.specs.Machine.{StackFrame, stack_frame, Runs, Makes, Over, Goes, on, throw_at}
 use Rattle.jr_thread_machine.specs.declared.flow.Left.{Left}
 use Rattle.jr_thread_machine.specs.declared.flow.Left.TheVariants as lefts
 use Rattle.jr_thread_machine.specs.declared.flow.Arguments.{Arguments}

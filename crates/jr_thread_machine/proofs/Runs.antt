@@ -1,10 +1,9 @@
 -- Moves that do the same, some local steps on.
-use Rattle.std.proofs.Common.{◌≡◌, suc, refl, ap, ◌∙◌, subst, sym, Some}
+use Rattle.std.proofs.Common.{◌≡◌, suc, refl, ap, ◌∙◌, subst}
 use Rattle.jr_base.specs.Deed.{Deed}
-use Rattle.jr_base.specs.declared.action.Reply.{Reply}
 use Rattle.jr_code.specs.Instructions.{Code}
 use Rattle.jr_code.specs.Machine.{State, Makes, Over, Move, Goes, Asks, Ends, step, follow, run}
-use Rattle.jr_thread_machine.specs.Runs.{Follows, Becomes}
+use Rattle.jr_thread_machine.specs.Runs.{Becomes}
 
 pub stays : (code : Code) (m : Move) → Becomes code m m
 stays code m = record { same = λ tape what f. f }

@@ -1,10 +1,10 @@
 -- An exception goes on from region to region.
-use Rattle.std.proofs.Common.{◌≡◌, ℕ, zero, suc, ◌+◌, ◌<◌, ◌≤◌, List, [], ◌∷◌, Option, Some, None, map, drop, length, refl, sym, ap, ◌∙◌, subst, arith, add-one}
+use Rattle.std.proofs.Common.{◌≡◌, ℕ, zero, suc, ◌+◌, ◌≤◌, List, [], ◌∷◌, Option, Some, None, drop, length, refl, sym, ap, ◌∙◌, subst, arith, add-one}
 use Rattle.std.specs.Prelude.{slice_get}
 use Rattle.jr_base.specs.Deed as deeds
 use Rattle.jr_base.specs.declared.finish.Fault.{Fault}
 use Rattle.jr_code.specs.Instructions.{Code, Region}
-use Rattle.jr_code.specs.Machine.{StackFrame, Throws, Move, Goes, Asks, step, choose, holds, handles, regions_of}
+use Rattle.jr_code.specs.Machine.{StackFrame, Throws, Goes, Asks, regions_of}
 use Rattle.jr_thread_machine.specs.declared.handlers.Found.{Found}
 use Rattle.jr_thread_machine.specs.declared.handlers.Found.TheVariants as founds
 use Rattle.jr_thread_machine.specs.Handlers.{taken_move, Takes, TakenFits, found_move, FoundFits}

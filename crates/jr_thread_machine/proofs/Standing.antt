@@ -24,7 +24,7 @@ use Rattle.jr_thread_machine.specs.declared.stage.Stage.TheVariants as stages
 use Rattle.jr_thread_machine.specs.Machines.{held_of}
 use Rattle.jr_thread_machine.specs.Runs.{Becomes}
 use Rattle.jr_thread_machine.specs.Saying.{Says}
-use Rattle.jr_thread_machine.specs.Stages.{Held, move_of, HeldFits, HasTurned, HasStarted, ComesTo, AsksFor, IsAt, IsSettled, answered, stage_move}
+use Rattle.jr_thread_machine.specs.Stages.{move_of, HeldFits, HasTurned, HasStarted, ComesTo, AsksFor, IsAt, IsSettled, answered, stage_move}
 use Rattle.jr_thread_machine.specs.Standing.{MovesAfter, StandsFor, RunsThreadOf, next_of}
 
 -- ---- moves after replies

@@ -1,10 +1,9 @@
 -- One instruction of a call, and what it leads to.
-use Rattle.std.proofs.Common.{◌≡◌, ℕ, ◌+◌, ◌<◌, ◌^◌, List, [], ◌∷◌, Option, Some, None, drop, refl, sym, ap, ◌∙◌, subst, arith, length}
+use Rattle.std.proofs.Common.{◌≡◌, ℕ, ◌+◌, ◌<◌, ◌^◌, List, [], Option, Some, None, drop, refl, sym, ap, ◌∙◌, subst, arith}
 use Rattle.std.specs.Prelude.{slice_get, MatchOption}
-use Rattle.jr_base.specs.declared.number.MethodId.{MethodId}
 use Rattle.jr_base.specs.declared.finish.Fault.{Fault}
 use Rattle.jr_code.specs.Instructions.{Instruction, Region, Code}
-use Rattle.jr_code.specs.Machine.{StackFrame, stack_frame, Runs, Throws, Move, Goes, act, step, instructions_of, regions_of}
+use Rattle.jr_code.specs.Machine.{StackFrame, stack_frame, Runs, Throws, Goes, act, instructions_of, regions_of}
 use Rattle.jr_code.specs.Checked.{CodeRight}
 use Rattle.jr_code.specs.Paths.{IsNext}
 use Rattle.jr_thread_machine.specs.declared.flow.Flow.{Flow}
@@ -15,7 +14,7 @@ use Rattle.jr_thread_machine.specs.declared.flow.Then.TheVariants as thens
 use Rattle.jr_thread_machine.specs.declared.handlers.Ran.{Ran}
 use Rattle.jr_thread_machine.specs.declared.handlers.Ran.TheVariants as rans
 use Rattle.jr_thread_machine.specs.Handlers.{CatchIn, GoesFurther, handled_move, HandledFits, ran_move, RanFits}
-use Rattle.jr_thread_machine.specs.Moves.{acted, flow_move, Onward, Steps}
+use Rattle.jr_thread_machine.specs.Moves.{flow_move, Onward, Steps}
 use Rattle.jr_thread_machine.specs.Places.{IsReached, MayGoOn, StopFits}
 use Rattle.jr_thread_machine.specs.Runs.{Becomes}
 use Rattle.jr_thread_machine.specs.Steps.{Stays, WentOn, Stopped}
@@ -137,13 +136,16 @@ pub goes_on_again : (code : Code) (count : ℕ) (old mid new : StackFrame) (foun
 goes_on_again code count old mid new None a h e = goes_further code old mid new a h.stays
 goes_on_again code count old mid new (Some ran) a h e = absurd (cc)
 
+pub stops_too : (code : Code) (old mid new : StackFrame) (ran : Ran) → Stays code old mid → Stopped code ran mid new → Stopped code ran old new
+stops_too code old mid new ran a h = record {
+  becomes = λ below. then code (Goes (Runs old below)) (Goes (Runs mid below)) (ran_move code ran below new) (a.becomes below) (h.becomes below);
+  fits = h.fits;
+}
+
 pub stops_after : (code : Code) (count : ℕ) (old mid new : StackFrame) (found : Option Ran) (ran : Ran) → Stays code old mid →
     MatchOption found (WentOn code count mid new) (λ ran. Stopped code ran mid new) → found ≡ Some ran → Stopped code ran old new
 stops_after code count old mid new None ran a h e = absurd (cc)
 stops_after code count old mid new (Some other) ran a h e =
     let same : other ≡ ran = cc in
     let P : Ran → Type 0 = λ r. Stopped code r old new in
-    subst P same (record {
-      becomes = λ below. then code (Goes (Runs old below)) (Goes (Runs mid below)) (ran_move code other below new) (a.becomes below) (h.becomes below);
-      fits = h.fits;
-    })
+    subst P same (stops_too code old mid new other a h)

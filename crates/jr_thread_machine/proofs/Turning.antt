@@ -19,7 +19,6 @@ use Rattle.jr_code.specs.Paths.{Begins}
 use Rattle.jr_code.specs.Machine.{StackFrame, stack_frame, Runs, Throws, Makes, Over, Goes, method_code_at, regions_of, monitor_in, start_locals, start_state, taken, enter_then}
 use Rattle.jr_code.specs.Views.{plain_of, method_of, tables_of, region_of}
 use Rattle.jr_thread_machine.specs.declared.flow.Left.{Left}
-use Rattle.jr_thread_machine.specs.declared.flow.Left.TheVariants as lefts
 use Rattle.jr_thread_machine.specs.declared.flow.Arguments.{Arguments}
 use Rattle.jr_thread_machine.specs.declared.flow.Then.TheVariants as thens
 use Rattle.jr_thread_machine.specs.declared.handlers.Ran.{Ran}

@@ -1,5 +1,5 @@
 -- What the machine comes to between two actions.
-use Rattle.std.proofs.Common.{◌≡◌, ℕ, ◌+◌, ◌<◌, ◌^◌, List, [], ◌∷◌, Option, Some, None, map, drop, refl, sym, ap, ◌∙◌, subst, length}
+use Rattle.std.proofs.Common.{◌≡◌, ℕ, List, [], ◌∷◌, Option, Some, None, drop, refl, sym, ap, ◌∙◌, subst, length}
 use Rattle.std.specs.Option.{option_map_or}
 use Rattle.jr_base.specs.Deed.{Deed, deed_of}
 use Rattle.jr_base.specs.Deed as deeds
@@ -13,7 +13,7 @@ use Rattle.jr_base.specs.Content.{Content, Holds}
 use Rattle.jr_code.specs.Instructions.{Code, MethodCode}
 use Rattle.jr_code.specs.Checked.{CodeRight}
 use Rattle.jr_code.specs.Paths.{Begins}
-use Rattle.jr_code.specs.Machine.{StackFrame, stack_frame, State, Runs, Throws, Makes, Move, Goes, Asks, method_code_at, regions_of, monitor_in, start_locals, taken, arity_of, exit_then, enter_then, handed, handed_fault, step}
+use Rattle.jr_code.specs.Machine.{StackFrame, stack_frame, Runs, Throws, Makes, Goes, Asks, method_code_at, regions_of, monitor_in, start_locals, taken, arity_of, exit_then, enter_then, handed, handed_fault}
 use Rattle.jr_thread_machine.specs.declared.flow.Left.{Left}
 use Rattle.jr_thread_machine.specs.declared.flow.Left.TheVariants as lefts
 use Rattle.jr_thread_machine.specs.declared.flow.Arguments.{Arguments}
@@ -22,11 +22,10 @@ use Rattle.jr_thread_machine.specs.declared.flow.Stop.{Stop}
 use Rattle.jr_thread_machine.specs.declared.flow.Stop.TheVariants as stops
 use Rattle.jr_thread_machine.specs.declared.handlers.Ran.{Ran}
 use Rattle.jr_thread_machine.specs.declared.handlers.Ran.TheVariants as rans
-use Rattle.jr_thread_machine.specs.declared.stage.Stage.{Stage}
 use Rattle.jr_thread_machine.specs.declared.stage.Stage.TheVariants as stages
 use Rattle.jr_thread_machine.specs.Frames.{without}
-use Rattle.jr_thread_machine.specs.Moves.{arguments_in, how_left, stop_move, leaving}
-use Rattle.jr_thread_machine.specs.Places.{IsReached, MayGoOn, IsMethod, StopFits, StageFits, AllMayGoOn}
+use Rattle.jr_thread_machine.specs.Moves.{arguments_in, how_left, stop_move}
+use Rattle.jr_thread_machine.specs.Places.{IsReached, MayGoOn, StopFits, StageFits, AllMayGoOn}
 use Rattle.jr_thread_machine.specs.Runs.{Becomes}
 use Rattle.jr_thread_machine.specs.Handlers.{HandledFits, ran_move, RanFits}
 use Rattle.jr_thread_machine.specs.Stages.{Held, held, stage_move, move_of, HeldFits, stage_of, stage_of_ran, called_stage, HasTurned}

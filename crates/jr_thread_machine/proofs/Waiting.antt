@@ -1,19 +1,15 @@
 -- The frames of calls that wait, kept outermost first, and of calls that begin.
-use Rattle.std.proofs.Common.{◌≡◌, ℕ, zero, suc, ◌+◌, ◌<◌, List, [], ◌∷◌, ◌++◌, Option, Some, None, true, false, Bool, map, take, drop, reverse, length, refl, sym, ap, ◌∙◌, subst, arith, length-append}
+use Rattle.std.proofs.Common.{◌≡◌, ℕ, zero, suc, ◌+◌, ◌<◌, List, [], ◌∷◌, ◌++◌, Option, Some, true, false, Bool, map, take, drop, reverse, length, refl, sym, ap, ◌∙◌, arith, length-append}
 use Rattle.std.specs.Prelude.{slice_get, slice_set}
 use Rattle.std.proofs.lemmas.List.{reverse-append, map-append, append_assoc, length-map, drop_at, take_at}
 use Rattle.std.proofs.Common.{add-one}
 use Rattle.jr_base.specs.declared.number.MethodId.{MethodId}
 use Rattle.jr_base.specs.declared.number.ObjId.{ObjId}
-use Rattle.jr_base.specs.declared.kind.SlotKind.{SlotKind}
 use Rattle.jr_base.specs.declared.value.Value.{Value}
 use Rattle.jr_base.specs.Content.{Content, Holds, unset}
 use Rattle.jr_code.specs.declared.code.MethodCode.{MethodCode as MethodOfLists}
 use Rattle.jr_code.specs.Checked.{this_kind}
-use Rattle.jr_code.specs.Coded.{Tables}
-use Rattle.jr_code.specs.Machine.{StackFrame, stack_frame, taken, this_local, start_locals, value_of_content}
-use Rattle.jr_code.specs.Views.{method_of}
-use Rattle.jr_thread_machine.specs.declared.flow.Arguments.{Arguments}
+use Rattle.jr_code.specs.Machine.{StackFrame, stack_frame, taken, this_local, value_of_content}
 use Rattle.jr_thread_machine.specs.declared.frame.Frame.{Frame}
 use Rattle.jr_thread_machine.specs.Calls.{HasBegun}
 use Rattle.jr_thread_machine.specs.Frames.{frame_of}

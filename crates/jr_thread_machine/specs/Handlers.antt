@@ -1,10 +1,9 @@
 -- What takes an exception.
 use Rattle.std.specs.Prelude.{◌≡◌, ℕ, ◌+◌, ◌<◌, ◌≤◌, List, [], ◌∷◌, drop, Option, Some, None, slice_get}
 use Rattle.jr_base.specs.Deed as deeds
-use Rattle.jr_base.specs.Content.{Content, Caught}
+use Rattle.jr_base.specs.Content.{Caught}
 use Rattle.jr_base.specs.declared.finish.Fault.{Fault}
-use Rattle.jr_base.specs.Threads.{value_at}
-use Rattle.jr_code.specs.Instructions.{Code, Region, RegionKind, CatchAt}
+use Rattle.jr_code.specs.Instructions.{Code, Region, CatchAt}
 use Rattle.jr_code.specs.Machine.{StackFrame, stack_frame, Runs, Throws, Move, Goes, Asks, Ends, on, regions_of, choose, holds, handles}
 use Rattle.jr_thread_machine.specs.declared.flow.Stop.TheVariants as stops
 use Rattle.jr_thread_machine.specs.declared.flow.Then.TheVariants as thens

@@ -1,6 +1,7 @@
 pub mod Calls
 pub mod Fields
 pub mod Frames
+pub mod Halting
 pub mod Handlers
 pub mod Machines
 pub mod Moves
@@ -11,3 +12,4 @@ pub mod Slots
 pub mod Stages
 pub mod Standing
 pub mod Steps
+pub mod Stopping

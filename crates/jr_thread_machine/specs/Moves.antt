@@ -1,5 +1,5 @@
 -- What the machine stands before, as a move of its code.
-use Rattle.std.specs.Prelude.{◌≡◌, ℕ, ◌+◌, List, [], ◌∷◌, ◌++◌, map, length, take, drop, Option, Some, None}
+use Rattle.std.specs.Prelude.{◌≡◌, ℕ, ◌+◌, List, [], ◌∷◌, map, take, drop, Option, Some}
 use Rattle.jr_base.specs.Deed.{Deed, deed_of}
 use Rattle.jr_base.specs.Deed as deeds
 use Rattle.jr_base.specs.declared.number.MethodId.{MethodId}
@@ -14,9 +14,9 @@ use Rattle.jr_base.specs.declared.value.Value.TheVariants as values
 use Rattle.jr_base.specs.declared.finish.Fault.{Fault}
 use Rattle.jr_base.specs.declared.finish.Fault.TheVariants as faults
 use Rattle.jr_base.specs.Content.{Content, Holds}
-use Rattle.jr_base.specs.Threads.{Next, Tape, object_made}
+use Rattle.jr_base.specs.Threads.{object_made}
 use Rattle.jr_code.specs.Instructions.{Instruction, CallStaticMethod, CallMethodOn, Code}
-use Rattle.jr_code.specs.Machine.{StackFrame, stack_frame, State, Runs, Throws, Makes, Over, Move, Goes, Asks, Ends, act, on, throw_at, taken, under, arity_of, regions_of, calling, handed, handed_fault, exit_then, returning, after_read, after_write, unless_illegal, value_of_content, follow, run}
+use Rattle.jr_code.specs.Machine.{StackFrame, stack_frame, State, Runs, Throws, Makes, Over, Move, Goes, Asks, Ends, act, on, throw_at, taken, arity_of, regions_of, calling, handed, handed_fault, exit_then, returning, after_read, after_write, unless_illegal, value_of_content}
 use Rattle.jr_code.specs.Paths.{IsNext}
 use Rattle.jr_thread_machine.specs.Frames.{without}
 use Rattle.jr_thread_machine.specs.declared.flow.Left.{Left}

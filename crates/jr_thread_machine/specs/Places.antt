@@ -1,5 +1,5 @@
 -- Where calls stand in checked code: at places that a path reaches.
-use Rattle.std.specs.Prelude.{◌≡◌, ℕ, ◌+◌, ◌<◌, ◌^◌, List, [], ◌∷◌, Some, Option}
+use Rattle.std.specs.Prelude.{◌≡◌, ℕ, ◌+◌, ◌<◌, ◌^◌, List, [], ◌∷◌, Some}
 use Rattle.jr_base.specs.declared.number.MethodId.{MethodId}
 use Rattle.jr_base.specs.declared.kind.SlotKind.{SlotKind}
 use Rattle.jr_code.specs.Instructions.{MethodCode, Code}

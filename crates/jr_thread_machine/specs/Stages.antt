@@ -1,5 +1,5 @@
 -- What contracts see of a machine, and the move that it stands before.
-use Rattle.std.specs.Prelude.{◌≡◌, ℕ, List, [], ◌∷◌, drop, Option, Some, None}
+use Rattle.std.specs.Prelude.{◌≡◌, List, [], ◌∷◌, drop, Option, Some, None}
 use Rattle.jr_base.specs.Deed.{Deed, deed_of}
 use Rattle.jr_base.specs.declared.number.ObjId.{ObjId}
 use Rattle.jr_base.specs.declared.action.Action.TheVariants as actions

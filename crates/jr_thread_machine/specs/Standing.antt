@@ -1,5 +1,5 @@
 -- What a machine has done: it stands for a thread of a program that was started so and has had these replies.
-use Rattle.std.specs.Prelude.{◌≡◌, ◌++◌, Option, List}
+use Rattle.std.specs.Prelude.{◌++◌, Option, List}
 use Rattle.jr_base.specs.Deed.{deed_of}
 use Rattle.jr_base.specs.declared.action.Body.{Body}
 use Rattle.jr_base.specs.declared.action.Reply.{Reply}

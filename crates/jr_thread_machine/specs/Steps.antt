@@ -1,10 +1,10 @@
 -- A call that goes on by itself.
-use Rattle.std.specs.Prelude.{◌≡◌, ◌⊎◌, ℕ, ◌<◌, List, Option, Some, None, slice_get}
+use Rattle.std.specs.Prelude.{◌≡◌, ◌⊎◌, ℕ, ◌<◌, List, Some, None, slice_get}
 use Rattle.jr_code.specs.declared.instruction.Instruction.{Instruction as Row}
 use Rattle.jr_code.specs.declared.code.MethodCode.{MethodCode as MethodOfLists}
 use Rattle.jr_code.specs.Coded.{Tables}
 use Rattle.jr_code.specs.Decoded.{meaning}
-use Rattle.jr_code.specs.Instructions.{Instruction, Unknown, Code}
+use Rattle.jr_code.specs.Instructions.{Unknown, Code}
 use Rattle.jr_code.specs.Machine.{StackFrame, Runs, Goes}
 use Rattle.jr_code.specs.Views.{method_of}
 use Rattle.jr_thread_machine.specs.declared.handlers.Ran.{Ran}

@@ -1,20 +1,53 @@
 //! What each instruction does to its call.
 
-ghost use Rattle.std.specs.Prelude.{◌≡◌, ◌<◌, ◌≤◌, ◌+◌, ◌^◌, IfOk, OnErr};
+ghost use Rattle.std.specs.Prelude.{◌≡◌, ◌<◌, ◌≤◌, ◌+◌, ◌^◌, IfOk, OnErr, MatchBool};
+ghost use Rattle.jr_code.specs.Coded.{Tables};
 ghost use Rattle.jr_code.specs.Decoded.{meaning};
+ghost use Rattle.jr_code.specs.Instructions.{Code as PlainCode};
 ghost use Rattle.jr_code.specs.Views.{tables_of, plain_of};
 ghost use Rattle.jr_thread_machine.specs.Frames.{frame_of};
 ghost use Rattle.jr_thread_machine.specs.Moves.{Steps};
+ghost use Rattle.jr_thread_machine.specs.Stopping.{MayStop};
+ghost use Rattle.jr_thread_machine.specs.declared.flow.Flow.TheVariants as flows;
 
 use crate::flow::Flow;
 use crate::frame::Frame;
-use crate::slot::Slot;
-use jr_base::{Memory, Value};
+use jr_base::{Fault, Memory, Value};
 use jr_code::{Code, Instruction};
 use std::alloc::Global;
 
 impl Frame {
-    /// Does an instruction, as far as that asks for nothing.
+    /// Does an instruction that works on operands and locals alone, and answers whether it is one that gives them values.
+    /// Nothing is done of any other.
+    pub(crate) fn go(&mut self, instruction: Instruction) -> bool
+        requires at { self.old.at + 1 < 2 ^ 32 }
+        requires room { 4 ≤ self.old.stack.spare }
+        ensures { MatchBool result ((plain : PlainCode) (t : Tables) → Steps plain (meaning t instruction) flows.Goes (frame_of self.old) (frame_of self.new))
+            ((self.new ≡ self.old) × MayStop instruction (frame_of self.old)) }
+    {
+        match instruction {
+            Instruction::PushInt(n) => self.int(&n),
+            Instruction::PushBool(b) => self.constant(Value::Bool(b)),
+            Instruction::PushNull => self.constant(Value::Null),
+            Instruction::Load(place) => self.load(place),
+            Instruction::Store(place) => self.store(place),
+            Instruction::Pop => self.pop(),
+            Instruction::Dup => self.dup(),
+            Instruction::Dup2 => self.dup2(),
+            Instruction::DupX1 => self.dup_x1(),
+            Instruction::DupX2 => self.dup_x2(),
+            Instruction::OneOperand(operator) => self.one_operand(operator),
+            Instruction::TwoOperands(operator) => return self.two_operands(operator),
+            Instruction::ConvertTo(width) => self.convert(width),
+            Instruction::Jump(to) => self.jump(to),
+            Instruction::JumpIf(to) => self.jump_if(to),
+            Instruction::JumpNot(to) => self.jump_not(to),
+            _ => return false,
+        }
+        true
+    }
+
+    /// Does any other instruction, as far as that asks for nothing.
     pub(crate) fn act(
         &mut self,
         alloc: Global,
@@ -23,28 +56,14 @@ impl Frame {
     ) -> Result<Flow, Memory>
         requires at { self.old.at + 1 < 2 ^ 32 }
         requires room { 4 ≤ self.old.stack.spare }
+        requires stops { MayStop instruction (frame_of self.old) }
         ensures ok { IfOk result (λ flow. Steps (plain_of code.now) (meaning (tables_of code.now) instruction) flow (frame_of self.old) (frame_of self.new)) }
         ensures err { OnErr result (frame_of self.new ≡ frame_of self.old) }
     {
         match instruction {
-            Instruction::PushInt(n) => Ok(self.int(&n)),
-            Instruction::PushBool(b) => Ok(self.constant(Value::Bool(b))),
-            Instruction::PushNull => Ok(self.constant(Value::Null)),
             Instruction::PushClass(class) => self.push_class(code, class),
             Instruction::PushLong(place) => Ok(self.push_long(code, place)),
-            Instruction::Load(place) => Ok(self.load(place)),
-            Instruction::Store(place) => Ok(self.store(place)),
-            Instruction::Pop => Ok(self.pop()),
-            Instruction::Dup => Ok(self.dup()),
-            Instruction::Dup2 => Ok(self.dup2()),
-            Instruction::DupX1 => Ok(self.dup_x1()),
-            Instruction::DupX2 => Ok(self.dup_x2()),
-            Instruction::OneOperand(operator) => Ok(self.one_operand(operator)),
-            Instruction::TwoOperands(operator) => Ok(self.two_operands(operator)),
-            Instruction::ConvertTo(width) => Ok(self.convert(width)),
-            Instruction::Jump(to) => Ok(self.jump(to)),
-            Instruction::JumpIf(to) => Ok(self.jump_if(to)),
-            Instruction::JumpNot(to) => Ok(self.jump_not(to)),
+            Instruction::TwoOperands(_) => Ok(Flow::Throws(Fault::ArithmeticException)),
             Instruction::BackTo(to) => Ok(self.back_to(to)),
             Instruction::GetField(place) => Ok(self.get_field(code, place)),
             Instruction::PutField(place) => Ok(self.put_field(code, place)),
@@ -70,6 +89,7 @@ impl Frame {
             Instruction::PrintAll(place) => self.print_all(alloc, code, place),
             Instruction::ThrowNew(place) => Ok(self.throw_new(code, place)),
             Instruction::ThrowLocal(place) => Ok(self.throw_local(place)),
+            _ => unreachable!(),
         }
     }
 }

@@ -10,6 +10,8 @@ ghost use Rattle.jr_arith.specs.Operators as spec;
 ghost use Rattle.jr_thread_machine.specs.Frames.{frame_of};
 ghost use Rattle.jr_thread_machine.specs.Moves.{Steps};
 ghost use Rattle.jr_thread_machine.specs.declared.flow.Flow.TheVariants as flows;
+ghost use Rattle.jr_base.specs.declared.action.Action.TheVariants as actions;
+ghost use Rattle.jr_thread_machine.specs.declared.flow.Then.TheVariants as thens;
 ghost use Rattle.jr_thread_machine.specs.declared.flow.Stop.TheVariants as stops;
 
 use crate::flow::{Flow, Left, Stop, Then};
@@ -47,10 +49,17 @@ fn asks(action: Action, then: Then) -> Flow
 }
 
 impl Frame {
+    /// Goes back to an instruction, which asks for a Back.
+    pub(crate) fn jump_back(&mut self, to: u32)
+        ensures { (plain : PlainCode) → Steps plain (BackTo to) (flows.Stops (stops.Asks actions.Back thens.Runs)) (frame_of self.old) (frame_of self.new) }
+    {
+        self.at = to;
+    }
+
     pub(crate) fn back_to(&mut self, to: u32) -> Flow
         ensures { (plain : PlainCode) → Steps plain (BackTo to) result (frame_of self.old) (frame_of self.new) }
     {
-        self.at = to;
+        self.jump_back(to);
         asks(Action::Back, Then::Runs)
     }
 

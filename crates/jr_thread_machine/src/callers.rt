@@ -37,20 +37,24 @@ impl Model for Callers {
 }
 
 impl Frame {
-    /// Begins a call of a method, with the last operands of the caller as its arguments.
+    /// Begins a call of a method, with the last operands of the caller as its arguments, and takes the room of its locals
+    /// and of so many operands.
     pub(crate) fn begin(
         &mut self,
         method: MethodId,
         this: Option<ObjId>,
         callee: &MethodCode,
+        room: usize,
         caller: &Stack,
     ) -> Result<Arguments, AllocError>
-        ensures { IfOk result (HasBegun method this callee.now caller.now.items (frame_of self.new)) }
+        ensures room { OnOk result (room ≤ self.new.stack.spare) }
+        ensures begun { IfOk result (HasBegun method this callee.now caller.now.items (frame_of self.new)) }
     {
         self.method = method;
         self.this = this;
         self.at = 0;
         self.stack.clear();
+        self.stack.reserve(room)?;
         self.locals.clear();
         let first = self.locals.push_this(callee.is_static, this)?;
         let formals = callee.formals.len();
@@ -105,15 +109,17 @@ fn switch(
     method: MethodId,
     this: Option<ObjId>,
     callee: &MethodCode,
+    room: usize,
 ) -> Result<Arguments, AllocError>
     requires { at < length frames.old.items }
     ensures ok { IfOk result (λ a. HasBegun method this callee.now top.old.stack.items (frame_of top.new) a) }
+    ensures room { OnOk result (room ≤ top.new.stack.spare) }
     ensures frames { OnOk result (HasEntered at (without (length callee.now.formals.items) this (frame_of top.old)) frames.old.items frames.new.items) }
     ensures kept { IsKept at frames.old.items frames.new.items }
     ensures err { OnErr result (frame_of top.new ≡ frame_of top.old) }
 {
     let frame = &mut frames[at];
-    let arguments = frame.begin(method, this, callee, &top.stack)?;
+    let arguments = frame.begin(method, this, callee, room, &top.stack)?;
     top.drop_arguments(callee.formals.as_slice().len(), this);
     mem::swap(top, frame);
     Ok(arguments)
@@ -130,7 +136,8 @@ impl Callers {
         }
     }
 
-    /// Lets the innermost call wait for a call of that method, which begins with its last operands.
+    /// Lets the innermost call wait for a call of that method, which begins with its last operands, and has room for so
+    /// many of its own.
     pub(crate) fn enter(
         &mut self,
         alloc: Global,
@@ -138,14 +145,24 @@ impl Callers {
         method: MethodId,
         this: Option<ObjId>,
         callee: &MethodCode,
+        room: usize,
     ) -> Result<Arguments, AllocError>
         ensures ok { IfOk result (HasBegun method this callee.now top.old.stack.items (frame_of top.new)) }
+        ensures room { OnOk result (room ≤ top.new.stack.spare) }
         ensures callers { OnOk result (self.new ≡ without (length callee.now.formals.items) this (frame_of top.old) ∷ self.old) }
         ensures kept { OnErr result (self.new ≡ self.old) }
         ensures err { OnErr result (frame_of top.new ≡ frame_of top.old) }
     {
         make_room(alloc, &mut self.frames, self.depth)?;
-        let arguments = switch(&mut self.frames, self.depth, top, method, this, callee)?;
+        let arguments = switch(
+            &mut self.frames,
+            self.depth,
+            top,
+            method,
+            this,
+            callee,
+            room,
+        )?;
         self.depth += 1;
         Ok(arguments)
     }

@@ -1,6 +1,6 @@
 //! The machine that runs one thread.
 
-ghost use Rattle.std.specs.Prelude.{◌≡◌, ◌↔◌, ◌++◌, ◌∷◌, [], List, OnOk, IfOk, IsTrue, Option, Some};
+ghost use Rattle.std.specs.Prelude.{◌≡◌, ◌<◌, ◌+◌, ◌↔◌, ◌++◌, ◌∷◌, [], ℕ, List, length, OnOk, IfOk, IsTrue, MatchBool, MatchOption, Option, Some, None, slice_get};
 ghost use Rattle.jr_base.specs.Deed.{Deed};
 ghost use Rattle.jr_base.specs.declared.action.Body.{Body as Started};
 ghost use Rattle.jr_base.specs.declared.action.Reply.{Reply as Replied};
@@ -8,6 +8,7 @@ ghost use Rattle.jr_program.specs.UnitViews.{program_of};
 ghost use Rattle.jr_program.specs.WellFormed.{StartFits};
 ghost use Rattle.jr_meaning.specs.Next.{next as next_in};
 ghost use Rattle.jr_code.specs.Checked.{CodeRight};
+ghost use Rattle.jr_code.specs.Depth.{IsDepthOf};
 ghost use Rattle.jr_code.specs.Sound.{StartRight};
 ghost use Rattle.jr_code.specs.Machine.{monitor_in, method_code_at};
 ghost use Rattle.jr_code.specs.Views.{plain_of};
@@ -33,7 +34,7 @@ use crate::stack::Stack;
 use crate::stage::Stage;
 use crate::table::item_at;
 use jr_base::{Action, Body, EndHow, Fault, LeaveHow, Memory, MethodId, ObjId, Reply, Value, Way};
-use jr_code::Code;
+use jr_code::{Checked, MethodCode};
 use jr_lowering::Program;
 use std::alloc::Global;
 
@@ -65,11 +66,27 @@ fn stage_of(stop: Stop) -> Stage
     }
 }
 
+/// The method of a number, if there is one.
+fn method_of(code: &Checked, method: MethodId) -> Option<&MethodCode>
+    ensures { MatchOption result (slice_get code.now.methods.items method.0 ≡ None) (λ m. slice_get code.now.methods.items method.0 ≡ Some m.now) }
+{
+    item_at(&code.parts().methods, method.0)
+}
+
+/// How many operands a call of the method takes room for: as many as ever stand there, and those that an instruction puts
+/// there at most.
+fn room_of(code: &Checked, method: MethodId) -> usize
+    requires { method.0 < length code.now.methods.items }
+    ensures { (depth : ℕ) × IsDepthOf (plain_of code.now) method depth × (result ≡ depth + 4) }
+{
+    code.depth(method) as usize + 4
+}
+
 /// The monitor that a call takes (JLS 8.4.3.6). `Memory` where the number of the class's object doesn't fit.
-fn monitor(code: &Code, method: MethodId, this: Option<ObjId>) -> Result<Option<ObjId>, Memory>
+fn monitor(code: &Checked, method: MethodId, this: Option<ObjId>) -> Result<Option<ObjId>, Memory>
     ensures { IfOk result (λ monitor. monitor ≡ monitor_in (method_code_at (plain_of code.now) method) this) }
 {
-    match item_at(&code.methods, method.0) {
+    match method_of(code, method) {
         Some(called) => if called.is_synchronized {
             if called.is_static {
                 Ok(Some(class_object(called.class)?))
@@ -96,7 +113,7 @@ impl Left {
 
 impl Machine {
     /// A thread that is to run a method, or to end at once.
-    fn start(alloc: Global, code: &Code, start: Option<Body>) -> Result<Machine, Memory>
+    fn start(alloc: Global, code: &Checked, start: Option<Body>) -> Result<Machine, Memory>
         requires { StartRight (plain_of code.now) start }
         ensures { IfOk result (λ machine. HasStarted (plain_of code.now) start (held_of machine)) }
     {
@@ -112,18 +129,19 @@ impl Machine {
 
     fn first_call(
         alloc: Global,
-        code: &Code,
+        code: &Checked,
         method: MethodId,
         this: Option<ObjId>,
     ) -> Result<Machine, Memory>
         requires { IsMethod (plain_of code.now) method }
         ensures { IfOk result (λ machine. HasStarted (plain_of code.now) (Some (record { method = method; this = this })) (held_of machine)) }
     {
-        let Some(callee) = item_at(&code.methods, method.0) else {
+        let Some(callee) = method_of(code, method) else {
             unreachable!();
         };
         let mut top = Frame::new(alloc);
-        let arguments = top.begin(method, this, callee, &Stack::new(alloc))?;
+        let room = room_of(code, method);
+        let arguments = top.begin(method, this, callee, room, &Stack::new(alloc))?;
         let stage = called(monitor(code, method, this)?, arguments);
         let callers = Callers::new(alloc);
         Ok(Machine {
@@ -134,7 +152,7 @@ impl Machine {
     }
 
     /// Gives the call the value that waits for it, or looks for what takes an exception of it.
-    fn wake(&mut self, code: &Code) -> Result<(), Memory>
+    fn wake(&mut self, code: &Checked) -> Result<(), Memory>
         requires right { CodeRight (plain_of code.now) }
         requires fits { HeldFits (plain_of code.now) (held_of self.old) }
         ensures turned { HasTurned (plain_of code.now) (held_of self.old) (held_of self.new) }
@@ -153,14 +171,14 @@ impl Machine {
     }
 
     /// Looks for what takes an exception. `Memory` where there is no room to go on with it.
-    fn catch(&mut self, code: &Code, fault: Fault, from: u32) -> Result<(), Memory>
+    fn catch(&mut self, code: &Checked, fault: Fault, from: u32) -> Result<(), Memory>
         requires right { CodeRight (plain_of code.now) }
         requires fits { HeldFits (plain_of code.now) (held_of self.old) }
         requires throws { self.old.stage ≡ stages.Throws fault from }
         ensures turned { HasTurned (plain_of code.now) (held_of self.old) (held_of self.new) }
         ensures awake { OnOk result (IsAwake self.new.stage) }
     {
-        let Some(method) = item_at(&code.methods, self.top.method.0) else {
+        let Some(method) = method_of(code, self.top.method) else {
             unreachable!();
         };
         match self.top.handle(&method.regions, from, fault) {
@@ -173,18 +191,48 @@ impl Machine {
     }
 
     /// Runs the innermost call to where it doesn't go on by itself.
-    fn run(&mut self, alloc: Global, code: &Code) -> Result<(), Memory>
+    fn run(&mut self, alloc: Global, code: &Checked) -> Result<(), Memory>
         requires right { CodeRight (plain_of code.now) }
         requires fits { HeldFits (plain_of code.now) (held_of self.old) }
         requires awake { IsAwake self.old.stage }
         ensures turned { HasTurned (plain_of code.now) (held_of self.old) (held_of self.new) }
         ensures stopped { OnOk result (HasStopped self.new.stage) }
     {
-        if let Stage::Runs = self.stage {
-            let ran = self.top.run(alloc, code)?;
-            return self.come_to(ran);
+        match self.stage {
+            Stage::Runs => if self.goes_back(code) {
+                Ok(())
+            } else {
+                self.run_on(alloc, code)
+            },
+            _ => Ok(()),
         }
-        Ok(())
+    }
+
+    /// Runs the innermost call by instructions that ask for nothing, and to the Back of a loop where that comes next.
+    /// Answers whether it does.
+    fn goes_back(&mut self, code: &Checked) -> bool
+        requires right { CodeRight (plain_of code.now) }
+        requires fits { HeldFits (plain_of code.now) (held_of self.old) }
+        requires runs { self.old.stage ≡ stages.Runs }
+        ensures turned { HasTurned (plain_of code.now) (held_of self.old) (held_of self.new) }
+        ensures stage { MatchBool result (HasStopped self.new.stage) (self.new.stage ≡ stages.Runs) }
+    {
+        if self.top.goes_back(code.parts()) {
+            self.stage = Stage::Asks(Action::Back, Then::Runs);
+            return true;
+        }
+        false
+    }
+
+    fn run_on(&mut self, alloc: Global, code: &Checked) -> Result<(), Memory>
+        requires right { CodeRight (plain_of code.now) }
+        requires fits { HeldFits (plain_of code.now) (held_of self.old) }
+        requires runs { self.old.stage ≡ stages.Runs }
+        ensures turned { HasTurned (plain_of code.now) (held_of self.old) (held_of self.new) }
+        ensures stopped { OnOk result (HasStopped self.new.stage) }
+    {
+        let ran = self.top.run(alloc, code.parts())?;
+        self.come_to(ran)
     }
 
     /// Takes on what the innermost call came to. `Memory` where it has no room to go on.
@@ -205,7 +253,7 @@ impl Machine {
     }
 
     /// Begins the call that is to be made, or leaves the innermost one.
-    fn prepare(&mut self, alloc: Global, code: &Code) -> Result<(), Memory>
+    fn prepare(&mut self, alloc: Global, code: &Checked) -> Result<(), Memory>
         requires fits { HeldFits (plain_of code.now) (held_of self.old) }
         requires stopped { HasStopped self.old.stage }
         ensures turned { HasTurned (plain_of code.now) (held_of self.old) (held_of self.new) }
@@ -221,7 +269,7 @@ impl Machine {
     fn begin(
         &mut self,
         alloc: Global,
-        code: &Code,
+        code: &Checked,
         method: MethodId,
         this: Option<ObjId>,
     ) -> Result<(), Memory>
@@ -230,18 +278,19 @@ impl Machine {
         ensures turned { HasTurned (plain_of code.now) (held_of self.old) (held_of self.new) }
         ensures settled { OnOk result (IsSettled self.new.stage) }
     {
-        let Some(callee) = item_at(&code.methods, method.0) else {
+        let Some(callee) = method_of(code, method) else {
             unreachable!();
         };
         let monitor = monitor(code, method, this)?;
+        let room = room_of(code, method);
         let arguments = self
             .callers
-            .enter(alloc, &mut self.top, method, this, callee)?;
+            .enter(alloc, &mut self.top, method, this, callee, room)?;
         self.stage = called(monitor, arguments);
         Ok(())
     }
 
-    fn leave(&mut self, code: &Code, left: Left) -> Result<(), Memory>
+    fn leave(&mut self, code: &Checked, left: Left) -> Result<(), Memory>
         requires fits { HeldFits (plain_of code.now) (held_of self.old) }
         requires leaves { self.old.stage ≡ stages.Leaves left }
         ensures turned { HasTurned (plain_of code.now) (held_of self.old) (held_of self.new) }
@@ -254,7 +303,7 @@ impl Machine {
         Ok(())
     }
 
-    fn settle(&mut self, alloc: Global, code: &Code) -> Result<(), Memory>
+    fn settle(&mut self, alloc: Global, code: &Checked) -> Result<(), Memory>
         requires right { CodeRight (plain_of code.now) }
         requires fits { HeldFits (plain_of code.now) (held_of self.old) }
         ensures turned { HasTurned (plain_of code.now) (held_of self.old) (held_of self.new) }
@@ -275,7 +324,7 @@ impl Machine {
     }
 
     /// Runs the thread to its next action, unless it stands there.
-    fn ready(&mut self, alloc: Global, code: &Code) -> Result<(), Memory>
+    fn ready(&mut self, alloc: Global, code: &Checked) -> Result<(), Memory>
         requires right { CodeRight (plain_of code.now) }
         requires fits { HeldFits (plain_of code.now) (held_of self.old) }
         ensures turned { HasTurned (plain_of code.now) (held_of self.old) (held_of self.new) }
@@ -314,7 +363,7 @@ fn called(monitor: Option<ObjId>, arguments: Arguments) -> Stage
 
 impl Machine {
     /// Goes on with the reply to the action that the thread stands at.
-    fn answer(&mut self, code: &Code, reply: Reply)
+    fn answer(&mut self, code: &Checked, reply: Reply)
         requires fits { HeldFits (plain_of code.now) (held_of self.old) }
         requires asked { (deed : Deed) × IsAt deed (held_of self.old) }
         ensures { ComesTo (plain_of code.now) (answered (plain_of code.now) self.old.stage (frame_of self.old.top) self.old.callers reply) self.new.stage (frame_of self.new.top) self.new.callers }
@@ -322,18 +371,11 @@ impl Machine {
         match self.stage {
             Stage::Calls(_) => self.stage = Stage::Runs,
             Stage::Asks(_, then) => {
-                self.stage = after(code, &mut self.top, &mut self.callers, then, reply);
+                self.stage = after(code.parts(), &mut self.top, &mut self.callers, then, reply);
             }
             _ => unreachable!(),
         }
     }
-}
-
-/// The code of the program.
-fn code_in(program: &Program) -> &Code
-    ensures { plain_of result.now ≡ code_of (program_of program.now) }
-{
-    program.code().parts()
 }
 
 impl Machine {
@@ -344,7 +386,7 @@ impl Machine {
         ensures { IfOk result (λ machine. StandsFor (program_of program.now) start [] machine) }
     {
         program.well_formed();
-        Machine::start(alloc, code_in(program), start)
+        Machine::start(alloc, program.code(), start)
     }
 
     /// Runs the thread to its next action, or to its end. Asked again, it answers the same, and runs nothing. `Memory`
@@ -359,7 +401,7 @@ impl Machine {
         ensures same { (answer : Answer) → Says answer (held_of self.old) → self.new ≡ self.old }
     {
         program.well_formed();
-        self.ready(alloc, code_in(program))?;
+        self.ready(alloc, program.code())?;
         self.action(alloc)
     }
 
@@ -370,6 +412,6 @@ impl Machine {
         ensures { (start : Option Started) (replies : List Replied) →
             StandsFor (program_of program.now) start replies self.old → StandsFor (program_of program.now) start (replies ++ reply.now ∷ []) self.new }
     {
-        self.answer(code_in(program), *reply);
+        self.answer(program.code(), *reply);
     }
 }

@@ -1,12 +1,16 @@
 //! Runs a call to where it doesn't go on by itself.
 
-ghost use Rattle.std.specs.Prelude.{◌≡◌, ◌<◌, ◌≤◌, ◌+◌, ◌^◌, IfOk, OnErr, MatchOption, Some, slice_get, length, map};
+ghost use Rattle.std.specs.Prelude.{◌≡◌, ◌≤◌, IfOk, OnErr, MatchBool, MatchOption, Some, slice_get, length, map};
 ghost use Rattle.jr_code.specs.Checked.{CodeRight};
-ghost use Rattle.jr_code.specs.Decoded.{meaning};
-ghost use Rattle.jr_code.specs.Machine.{instructions_of, regions_of};
-ghost use Rattle.jr_code.specs.Views.{plain_of, tables_of, region_of};
+ghost use Rattle.jr_code.specs.Machine.{regions_of};
+ghost use Rattle.jr_code.specs.Views.{plain_of, region_of};
 ghost use Rattle.jr_thread_machine.specs.Frames.{frame_of};
 ghost use Rattle.jr_thread_machine.specs.Places.{IsReached};
+ghost use Rattle.jr_thread_machine.specs.Halting.{Halts, HaltsAt};
+ghost use Rattle.jr_base.specs.declared.action.Action.TheVariants as actions;
+ghost use Rattle.jr_thread_machine.specs.declared.flow.Stop.TheVariants as stops;
+ghost use Rattle.jr_thread_machine.specs.declared.flow.Then.TheVariants as thens;
+ghost use Rattle.jr_thread_machine.specs.declared.handlers.Ran.TheVariants as rans;
 ghost use Rattle.jr_thread_machine.specs.Steps.{RowAt, NoRowAt, WentOn, Stopped, Stays};
 
 use crate::flow::{Flow, Stop};
@@ -27,9 +31,43 @@ fn instruction_at(method: &MethodCode, at: u32) -> Option<Instruction>
     }
 }
 
+/// Where a call comes to by instructions that give operands and locals their values.
+#[derive(Clone, Copy, Debug, PartialEq, Eq)]
+pub(crate) enum Halt {
+    /// An instruction that may stop the call or throw.
+    At(Instruction),
+    /// There is no instruction, which checked code never comes to.
+    Nothing,
+    /// There is no room for what an instruction may put on the stack.
+    NoRoom,
+}
+
 impl Frame {
-    /// Does an instruction, and goes on with an exception of it. None where the call goes on by itself.
-    fn perform(
+    /// Does instructions while they give operands and locals their values. None of it takes memory.
+    #[inline(never)]
+    fn advance(&mut self, code: &Code, method: &MethodCode) -> Halt
+        requires right { CodeRight (plain_of code.now) }
+        requires here { IsReached (plain_of code.now) self.old.method self.old.at }
+        requires method { slice_get code.now.methods.items self.old.method.0 ≡ Some method.now }
+        ensures stays { Stays (plain_of code.now) (frame_of self.old) (frame_of self.new) }
+        ensures ahead { self.old.at ≤ self.new.at }
+        ensures halts { Halts code.now method.now self.new result }
+    {
+        let _n = method.instrs.len();
+        while self.stack.has_room(4) {
+            let Some(instruction) = instruction_at(method, self.at) else {
+                return Halt::Nothing;
+            };
+            if !self.go(instruction) {
+                return Halt::At(instruction);
+            }
+        }
+        Halt::NoRoom
+    }
+
+    /// Does an instruction that may stop the call, and goes on with an exception of it. None where the call goes on by
+    /// itself.
+    fn stop(
         &mut self,
         alloc: Global,
         code: &Code,
@@ -38,10 +76,7 @@ impl Frame {
     ) -> Result<Option<Ran>, Memory>
         requires right { CodeRight (plain_of code.now) }
         requires here { IsReached (plain_of code.now) self.old.method self.old.at }
-        requires at { self.old.at + 1 < 2 ^ 32 }
-        requires room { 4 ≤ self.old.stack.spare }
-        requires inside { self.old.at < length method.now.instrs.items }
-        requires stands { slice_get (instructions_of (plain_of code.now) self.old.method) self.old.at ≡ Some (meaning (tables_of code.now) instruction) }
+        requires at { HaltsAt code.now method.now instruction self.old }
         requires regions { regions_of (plain_of code.now) self.old.method ≡ map region_of method.now.regions.items }
         ensures ok { IfOk result (λ ran. MatchOption ran (WentOn (plain_of code.now) (length method.now.instrs.items) (frame_of self.old) (frame_of self.new))
             (λ ran. Stopped (plain_of code.now) ran (frame_of self.old) (frame_of self.new))) }
@@ -54,29 +89,28 @@ impl Frame {
         }
     }
 
-    /// Does one instruction. None where the call goes on by itself.
-    fn step(
-        &mut self,
-        alloc: Global,
-        code: &Code,
-        method: &MethodCode,
-    ) -> Result<Option<Ran>, Memory>
+    /// Does instructions while they give operands and locals their values, and then the jump back of a loop, where the call
+    /// stands before one. Answers whether it does that. None of it takes memory.
+    pub(crate) fn goes_back(&mut self, code: &Code) -> bool
         requires right { CodeRight (plain_of code.now) }
         requires here { IsReached (plain_of code.now) self.old.method self.old.at }
-        requires method { slice_get code.now.methods.items self.old.method.0 ≡ Some method.now }
-        ensures ok { IfOk result (λ ran. MatchOption ran (WentOn (plain_of code.now) (length method.now.instrs.items) (frame_of self.old) (frame_of self.new))
-            (λ ran. Stopped (plain_of code.now) ran (frame_of self.old) (frame_of self.new))) }
-        ensures err { OnErr result (frame_of self.new ≡ frame_of self.old) }
+        ensures { MatchBool result (Stopped (plain_of code.now) (rans.Stops (stops.Asks actions.Back thens.Runs)) (frame_of self.old) (frame_of self.new))
+            (Stays (plain_of code.now) (frame_of self.old) (frame_of self.new)) }
     {
-        self.stack.reserve(4)?;
-        let _n = method.instrs.len();
-        let Some(instruction) = instruction_at(method, self.at) else {
-            return Ok(Some(Ran::Stops(Stop::Nothing)));
+        let Some(method) = item_at(&code.methods, self.method.0) else {
+            unreachable!();
         };
-        self.perform(alloc, code, method, instruction)
+        match self.advance(code, method) {
+            Halt::At(Instruction::BackTo(to)) => {
+                self.jump_back(to);
+                true
+            }
+            _ => false,
+        }
     }
 
-    /// Runs the call to where it doesn't go on by itself.
+    /// Runs the call to where it doesn't go on by itself. `Memory` also where there is no room for its operands.
+    #[inline(never)]
     pub(crate) fn run(&mut self, alloc: Global, code: &Code) -> Result<Ran, Memory>
         requires right { CodeRight (plain_of code.now) }
         requires here { IsReached (plain_of code.now) self.old.method self.old.at }
@@ -87,8 +121,14 @@ impl Frame {
             unreachable!();
         };
         loop {
-            if let Some(ran) = self.step(alloc, code, method)? {
-                return Ok(ran);
+            match self.advance(code, method) {
+                Halt::At(instruction) => {
+                    if let Some(ran) = self.stop(alloc, code, method, instruction)? {
+                        return Ok(ran);
+                    }
+                }
+                Halt::Nothing => return Ok(Ran::Stops(Stop::Nothing)),
+                Halt::NoRoom => return Err(Memory),
             }
         }
     }

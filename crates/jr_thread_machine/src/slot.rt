@@ -1,6 +1,7 @@
 //! What a local or an operand holds.
 
-ghost use Rattle.std.specs.Prelude.{◌≡◌, Some};
+ghost use Rattle.std.specs.Prelude.{◌≡◌, Some, IfSome};
+ghost use Rattle.jr_base.specs.declared.value.Value.TheVariants as values;
 ghost use Rattle.jr_base.specs.Content.{Holds, Caught, unset, fault_in};
 ghost use Rattle.jr_base.specs.Threads.{reference as reference_of};
 ghost use Rattle.jr_code.specs.Machine.{value_of_content};
@@ -87,6 +88,16 @@ impl Slot {
             Kept::Long(n) => Value::Long(n),
             Kept::Bool(b) => Value::Bool(b),
             Kept::Caught(_) => Value::Int(0),
+        }
+    }
+
+    /// The int that this is, if it is one.
+    pub(crate) fn int(self) -> Option<i32>
+        ensures { IfSome result (λ n. value_of_content self ≡ values.Int n) }
+    {
+        match self.kept {
+            Kept::Int(n) => Some(n),
+            _ => None,
         }
     }
 

@@ -1,9 +1,11 @@
 //! The operands of a call.
 
-ghost use Rattle.std.specs.Prelude.{◌≡◌, ◌<◌, ◌≤◌, ◌+◌, [], ◌∷◌, drop, take, reverse, OnOk};
-ghost use Rattle.jr_code.specs.Machine.{top_content, under};
+ghost use Rattle.std.specs.Prelude.{◌≡◌, ◌<◌, ◌≤◌, ◌+◌, ◌↔◌, [], ◌∷◌, drop, take, reverse, IsTrue, OnOk};
+ghost use Rattle.jr_arith.specs.Operators.{binary_value};
+ghost use Rattle.jr_code.specs.Machine.{top_content, under, value_of_content};
 
 use crate::slot::Slot;
+use jr_arith::Binary;
 use jr_base::Value;
 use std::alloc::{AllocError, Global};
 use std::marker::Model;
@@ -45,6 +47,13 @@ impl Stack {
         Ok(())
     }
 
+    /// Whether there is room for `n` more operands.
+    pub(crate) fn has_room(&self, n: usize) -> bool
+        ensures { IsTrue result ↔ (n ≤ self.now.spare) }
+    {
+        n <= self.slots.capacity() - self.slots.len()
+    }
+
     /// Puts an operand on top, into reserved room.
     pub(crate) fn push(&mut self, slot: Slot)
         requires { 0 < self.old.spare }
@@ -74,6 +83,19 @@ impl Stack {
         match slots {
             [.., second, _top] => *second,
             _ => Slot::of(Value::Int(0)),
+        }
+    }
+
+    /// What an operator gives between the topmost operands, and none at a zero divisor. Two ints, as most are, are told
+    /// apart first, so that what they give is found with no look at their kinds.
+    pub(crate) fn apply(&self, operator: Binary) -> Option<Value>
+        ensures { result ≡ binary_value operator (value_of_content (top_content (under self.now.items))) (value_of_content (top_content self.now.items)) }
+    {
+        let b = self.top();
+        let a = self.second();
+        match (a.int(), b.int()) {
+            (Some(a), Some(b)) => operator.apply(Value::Int(a), Value::Int(b)),
+            _ => apply_to(operator, a.value(), b.value()),
         }
     }
 
@@ -120,6 +142,13 @@ impl Stack {
         let kept = slots.len().saturating_sub(n);
         self.slots.truncate(kept);
     }
+}
+
+#[inline(never)]
+fn apply_to(operator: Binary, a: Value, b: Value) -> Option<Value>
+    ensures { result ≡ binary_value operator a b }
+{
+    operator.apply(a, b)
 }
 
 fn top_of(slots: &[Slot]) -> Slot

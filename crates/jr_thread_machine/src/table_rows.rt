@@ -78,7 +78,10 @@ impl Frame {
         ensures { (plain : PlainCode) → Steps plain (meaning (tables_of code.now) (rows.PushLong place)) result (frame_of self.old) (frame_of self.new) }
     {
         match item_at(&code.longs, place) {
-            Some(n) => self.long(n),
+            Some(n) => {
+                self.long(n);
+                Flow::Goes
+            }
             None => Flow::Stops(Stop::Nothing),
         }
     }

@@ -1,8 +1,17 @@
 pub mod Brought
+pub mod Constants
+pub mod Endings
 pub mod Fits
+pub mod Formals
+pub mod Forms
+pub mod Headings
+pub mod Judged
 pub mod Lists
 pub mod Literals
 pub mod Lookups
 pub mod Prefixes
+pub mod Scoping
 pub mod Suffixes
+pub mod Traces
+pub mod Turns
 pub mod Waits

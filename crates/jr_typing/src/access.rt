@@ -5,7 +5,7 @@ ghost use Rattle.jr_names.specs.Answered.{Answers};
 ghost use Rattle.jr_typing.specs.Views.{view_denotation, view_held, view_scope};
 ghost use Rattle.jr_typing_rules.specs.Answers.{found};
 ghost use Rattle.jr_typing_rules.specs.Denotations as spec;
-ghost use Rattle.jr_typing_rules.specs.Names.{field_in};
+ghost use Rattle.jr_typing_rules.specs.Names.{field_in, named};
 
 use crate::chain::Chain;
 use crate::denotation::{Denotation, Held, OpenVariable, face_of, mismatch, unknown, value_held};
@@ -13,6 +13,7 @@ use crate::scope::Scope;
 use crate::types::{INT, members_of};
 use jr_ast::Name;
 use jr_base::{ClassId, Fail, Refusal, Span};
+use jr_names::Names;
 use jr_program::{TypedExpr, TypedShape, TypedSuffix};
 use jr_typing_rules::{Access, Face, FieldEntry, Library, Members, ValueType, VariableKind};
 use std::alloc::Global;
@@ -65,6 +66,16 @@ fn of_library(name: &Name) -> Result<Denotation, Fail>
     Err(unknown(name.place))
 }
 
+/// A class of the program, else one of the library (JLS 6.5.2).
+pub fn class_denoted(names: &Names<'_>, name: &Name) -> Result<Denotation, Fail>
+    ensures { Answers view_denotation (spec.of_class (named name.now.text names.now.names.numbers) name.now) result }
+{
+    match names.class_named(name.text.as_slice()) {
+        Some(class) => Ok(Denotation::Class(class)),
+        None => of_library(name),
+    }
+}
+
 fn of_field_or_class(
     alloc: Global,
     scope: &Scope<'_, '_, '_>,
@@ -76,10 +87,7 @@ fn of_field_or_class(
 {
     match field {
         Some(field) => of_own_field(alloc, scope, at, field),
-        None => match scope.names.class_named(name.text.as_slice()) {
-            Some(class) => Ok(Denotation::Class(class)),
-            None => of_library(name),
-        },
+        None => class_denoted(scope.names, name),
     }
 }
 

@@ -86,7 +86,7 @@ pub fn infixed(
 }
 
 /// What `++` and `--` add (JLS 15.15.1, 15.15.2); none of other operators.
-fn step_of(operator: Prefix) -> Option<i32>
+pub fn step_of(operator: Prefix) -> Option<i32>
     ensures { result ≡ spec.step_of operator }
 {
     match operator {

@@ -4,7 +4,7 @@ ghost use Rattle.std.specs.Prelude.{◌≡◌};
 ghost use Rattle.jr_typing_rules.specs.Types as spec;
 
 use jr_arith::Width;
-use jr_base::Elem;
+use jr_base::{Elem, SlotKind};
 use jr_typing_rules::{Members, ValueType};
 
 pub const INT: ValueType = ValueType::Single(Elem::Int);
@@ -75,6 +75,18 @@ pub fn width_to(from: ValueType, to: ValueType) -> Option<Width>
             _ => None,
         },
         _ => None,
+    }
+}
+
+/// What a variable of that type holds.
+pub fn kind_of(of: ValueType) -> SlotKind
+    ensures { result ≡ spec.kind_of of }
+{
+    match of {
+        ValueType::Single(Elem::Int) => SlotKind::Int,
+        ValueType::Single(Elem::Long) => SlotKind::Long,
+        ValueType::Single(Elem::Bool) => SlotKind::Bool,
+        _ => SlotKind::Ref,
     }
 }
 

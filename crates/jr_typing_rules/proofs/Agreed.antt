@@ -1,5 +1,5 @@
 -- The names of an accepted source agree with its program.
-use Rattle.std.proofs.Common.{◌≡◌, ◌<◌, ◌⊎◌, inl, inr, ℕ, true, List, [], ◌∷◌, ◌++◌, length, Option, Some, slice_get, refl, ap, sym, append-nil, arith}
+use Rattle.std.proofs.Common.{◌≡◌, ◌<◌, ◌⊎◌, inl, inr, ℕ, ◌+◌, true, List, [], ◌∷◌, ◌++◌, length, Option, Some, slice_get, refl, ap, sym, append-nil, arith}
 use Rattle.std.specs.List.{flat_map}
 use Rattle.std.proofs.lemmas.List.{length-append}
 use Rattle.jr_base.specs.declared.number.ClassId.{ClassId}
@@ -10,7 +10,7 @@ use Rattle.jr_typing_rules.specs.Names.{Text, Names, Class}
 use Rattle.jr_typing_rules.specs.Resolution.{Known, Resolved, Resolution, has_own_name, and_member, first_known, and_class}
 use Rattle.jr_typing_rules.specs.Declarations.{Coded, MadeField, MadeMethod, MadeClass, ClassesMade, declares_run, makes_member, makes_class}
 use Rattle.jr_typing_rules.specs.Whole.{fields_in, methods_in, fields_of, methods_of}
-use Rattle.jr_typing_rules.proofs.Holding.{Each, Holds, holds-require}
+use Rattle.jr_typing_rules.proofs.Holding.{Each, Each-weaker, Holds, holds-require}
 use Rattle.jr_typing_rules.proofs.Both.{Both, both-then, both-require, both-along}
 use Rattle.jr_typing_rules.proofs.SameTypes.{numbers_alone}
 use Rattle.jr_typing_rules.proofs.MainNumbers.{MainBelow, MainLater, main-unchanged}
@@ -20,7 +20,8 @@ use Rattle.jr_typing_rules.specs.declared.words.MethodEntry.{MethodEntry}
 use Rattle.jr_typing_rules.proofs.Items.{with-last}
 use Rattle.jr_typing_rules.proofs.Running.{RunRight}
 use Rattle.jr_typing_rules.proofs.Known.{get-append, get-last}
-use Rattle.jr_typing_rules.proofs.Agreeing.{ConstructsAt, FieldsAgree, FieldsAgree-more, MethodsAgree, MethodsAgree-more, ConstructorAgrees, ConstructorAgrees-more}
+use Rattle.jr_typing_rules.proofs.Agreeing.{ConstructsAt, MethodsAgree, MethodsAgree-more, ConstructorAgrees, ConstructorAgrees-more}
+use Rattle.jr_typing_rules.proofs.AgreeingFields.{AreBefore, none-lie, FieldsAgree, FieldsAgree-more}
 use Rattle.jr_typing_rules.proofs.AgreedMembers.{ClassAgrees, member-agrees}
 
 -- ---- classes
@@ -59,6 +60,7 @@ pub record ClassesAgree (program : Resolution) (s : Resolved) (t : ClassesMade) 
   pub beside : (n : ℕ) (k : Class) → slice_get s.classes n ≡ Some k → IsBeside program t.made n k
   pub numbers : (n : ℕ) (k : MadeClass) → slice_get t.made n ≡ Some k → k.number.0 ≡ n
   pub owners : (n : ℕ) (m : MadeMethod) → slice_get (flat_map methods_of t.made) n ≡ Some m → m.class.0 < length t.made
+  pub field_classes : AreBefore (length t.made) (flat_map fields_of t.made)
 
 -- a method of an earlier class was made before
 older : (own earlier : ClassId) (m : MadeMethod) (P : Type 0) → earlier.0 < own.0 → (m.class ≡ own) ⊎ P → m.class ≡ earlier → P
@@ -90,6 +92,9 @@ class-agrees program numbers s t k same known =
       below = known.below;
       later = main-unchanged s.main (length ms);
       fields = tt;
+      counted_fields = rw (append-nil fs) (λ static. none-lie own static fs known.field_classes);
+      field_classes = rw (append-nil fs)
+          (Each-weaker (λ (f : MadeField). f.class.0 < length t.made) (λ (f : MadeField). f.class.0 < length t.made + 1) fs (λ f below. omega (arith, below)) known.field_classes);
       methods = tt;
       constructor = tt;
       owners = λ n m found. inr (rw (append-nil ms) at found);
@@ -129,5 +134,6 @@ class-agrees program numbers s t k same known =
               (λ n k found. let b = known.beside n k found in (b.0, get-append t.made (new ∷ []) n b.0 b.1, b.2, b.3, b.4))
               (new, rw known.count (get-last t.made new), sym known.count, run, agree.runs);
           numbers = with-last (λ n (k : MadeClass). k.number.0 ≡ n) t.made new known.numbers refl;
+          field_classes = rw (all_fields, length-append t.made (new ∷ [])) agree.field_classes;
           owners = rw all_methods (λ n m found. owned t.made new m (slice_get ms n ≡ Some m) (known.owners n m) (agree.owners n m found));
         }

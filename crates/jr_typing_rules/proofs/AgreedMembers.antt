@@ -20,7 +20,8 @@ use Rattle.jr_typing_rules.proofs.SameTypes.{numbers_alone}
 use Rattle.jr_typing_rules.proofs.Made.{AddsMethod, method-made, flat_map-snoc}
 use Rattle.jr_typing_rules.proofs.Running.{entry-runs}
 use Rattle.jr_typing_rules.proofs.Known.{both}
-use Rattle.jr_typing_rules.proofs.Agreeing.{DeclaratorsBoth, MembersAgree, fields-both, named-after, constructor-after}
+use Rattle.jr_typing_rules.proofs.Agreeing.{MembersAgree, named-after, constructor-after}
+use Rattle.jr_typing_rules.proofs.AgreeingFields.{DeclaratorsBoth, fields-both}
 
 -- what agrees behind the fields and methods of the classes before
 abbrev pub ClassAgrees : Resolution → unit.Class → ClassId → Option MethodId → List MadeField → List MadeMethod → Known → Coded → Type 0
@@ -51,6 +52,8 @@ fields-after program own first k done fs ms counts s after t d known = record {
   below = rw (d.others.main, d.others.methods) known.below;
   later = rw d.others.main known.later;
   fields = d.entries;
+  counted_fields = d.counted_fields;
+  field_classes = d.classes;
   methods = rw (d.others.main, d.others.method_table) known.methods;
   constructor = rw (d.others.main, d.others.constructor) known.constructor;
   owners = known.owners;
@@ -64,7 +67,7 @@ field-agrees : (program : Resolution) (own : ClassId) (first : Option MethodId) 
 field-agrees program own first fs ms k s c f known =
     let before = fs ++ flat_map fields_in c.members in
     both-second (DeclaratorsBoth own before c.counts s) (ClassAgrees program k own first fs ms) (and_fields (numbers_alone program.names) s f) (makes_fields program.names own c.counts f) _
-    (fields-both own before program.names s c.counts f known.own_class known.field_count known.fields) λ after t d.
+    (fields-both own before program.names s c.counts f known.own_class known.field_count known.fields known.counted_fields known.field_classes) λ after t d.
     let next : Coded = record { counts = t.counts; members = c.members ++ Fields f.modifiers t.made ∷ [] } in
     with-member program k own first fs ms after c next (Fields f.modifiers t.made) refl
     (rw (append-nil (ms ++ flat_map methods_in c.members))

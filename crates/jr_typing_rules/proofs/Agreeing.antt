@@ -1,121 +1,27 @@
 -- What the pass on names and the pass on code say of the members of one class: each entry is what is made, at its number.
-use Rattle.std.proofs.Common.{◌≡◌, ◌⊎◌, inl, ◌==◌, ◌<◌, ℕ, ◌+◌, Bool, true, false, List, [], ◌∷◌, ◌++◌, length, map, Option, Some, None, is_none, slice_get, refl, ap, sym, ◌∙◌, append_assoc, append-nil, arith}
+use Rattle.std.proofs.Common.{◌≡◌, ◌⊎◌, inl, ◌==◌, ◌<◌, ℕ, ◌+◌, Bool, true, false, List, [], ◌∷◌, ◌++◌, length, map, Option, Some, None, is_none, slice_get, refl, ap, sym, ◌∙◌, arith}
 use Rattle.std.proofs.lemmas.List.{length-append}
 use Rattle.std.proofs.lemmas.Option.{slice_get_within}
 use Rattle.jr_base.specs.declared.number.ClassId.{ClassId}
 use Rattle.jr_base.specs.declared.number.MethodId.{MethodId}
-use Rattle.jr_ast.specs.declared.unit.Field.{Field}
-use Rattle.jr_ast.specs.declared.unit.FieldDeclarator.{FieldDeclarator}
 use Rattle.jr_ast.specs.Units.{Member, Empty, OfField, OfMethod, OfClause}
 use Rattle.jr_ast.specs.Units as unit
 use Rattle.jr_typing_rules.specs.declared.words.ValueType.{ValueType}
-use Rattle.jr_typing_rules.specs.declared.words.FieldEntry.{FieldEntry}
 use Rattle.jr_typing_rules.specs.declared.words.MethodEntry.{MethodEntry}
 use Rattle.jr_typing_rules.specs.Answers.{Good}
 use Rattle.jr_typing_rules.specs.Types.{kind_of}
-use Rattle.jr_typing_rules.specs.Modifiers.{has, is_static_kind, is_volatile_kind}
-use Rattle.jr_typing_rules.specs.Names.{Text, Names, Class}
-use Rattle.jr_typing_rules.specs.Statements.{type_of}
-use Rattle.jr_typing_rules.specs.Resolution.{Known, Resolution, main_after, and_entry, field_entry, result_type, formal_types, and_field, and_fields, entry, with_class}
-use Rattle.jr_typing_rules.specs.Declarations.{Counts, MadeField, MadeMethod, FieldsMade, initial_constant, is_constructor, makes_field, makes_fields}
-use Rattle.jr_typing_rules.proofs.Holding.{Holds, holds-next, holds-then, Each, Each-append, Each-weaker, same-good}
-use Rattle.jr_typing_rules.proofs.Both.{Both, both-same, both-along}
-use Rattle.jr_typing_rules.proofs.SameTypes.{numbers_alone, same-type, same-result, same-formals}
+use Rattle.jr_typing_rules.specs.Modifiers.{has, is_static_kind}
+use Rattle.jr_typing_rules.specs.Names.{Text, Class}
+use Rattle.jr_typing_rules.specs.Resolution.{Known, Resolution, main_after, result_type, formal_types, entry, with_class}
+use Rattle.jr_typing_rules.specs.Declarations.{MadeField, MadeMethod, is_constructor}
+use Rattle.jr_typing_rules.proofs.Holding.{Each, Each-append, Each-weaker, same-good}
+use Rattle.jr_typing_rules.proofs.SameTypes.{numbers_alone, same-result, same-formals}
 use Rattle.jr_typing_rules.proofs.MainNumbers.{is_main_at, MainBelow, MainLater, same-main-at, main-unchanged, main-later-on, main-after-later, main-after-at, main-after-below}
 use Rattle.jr_typing_rules.proofs.Made.{IsMade}
 use Rattle.jr_typing_rules.proofs.Items.{with-last}
 use Rattle.jr_typing_rules.proofs.Running.{RunRight}
-use Rattle.jr_typing_rules.proofs.Known.{get-append, get-last, entry-added}
-
--- ---- fields
-
-pub record FieldMade (own : ClassId) (e : FieldEntry) (f : MadeField) : Type 0 where
-  pub declared_in : e.class ≡ own
-  pub class : f.class ≡ own
-  pub static : f.is_static ≡ e.is_static
-  pub of : f.of ≡ e.of
-
-abbrev pub FieldAgrees : ClassId → List MadeField → FieldEntry → Type 0
-FieldAgrees own made e = (f : MadeField) × (slice_get made e.number.0 ≡ Some f) × FieldMade own e f
-
-abbrev pub FieldsAgree : ClassId → List MadeField → List (Text × FieldEntry) → Type 0
-FieldsAgree own made = Each (λ (e : Text × FieldEntry). FieldAgrees own made e.1)
-
-pub FieldsAgree-more : (own : ClassId) (made more : List MadeField) (table : List (Text × FieldEntry)) → FieldsAgree own made table → FieldsAgree own (made ++ more) table
-FieldsAgree-more own made more table =
-    Each-weaker (λ (e : Text × FieldEntry). FieldAgrees own made e.1) (λ (e : Text × FieldEntry). FieldAgrees own (made ++ more) e.1) table
-    (λ e a. (a.0, get-append made more e.1.number.0 a.0 a.1, a.2))
-
-FieldsAgree-snoc : (own : ClassId) (made : List MadeField) (f : MadeField) (table : List (Text × FieldEntry)) (x : Text) (e : FieldEntry) → e.number.0 ≡ length made → FieldMade own e f →
-    FieldsAgree own made table → FieldsAgree own (made ++ f ∷ []) (table ++ (x, e) ∷ [])
-FieldsAgree-snoc own made f table x e number is all =
-    Each-append (λ (e : Text × FieldEntry). FieldAgrees own (made ++ f ∷ []) e.1) table ((x, e) ∷ []) (FieldsAgree-more own made (f ∷ []) table all)
-    ((f, rw number (get-last made f), is), tt)
-
--- all else stays while fields are read
-pub record ButFields (start s : Known) : Type 0 where
-  pub own : s.own ≡ start.own
-  pub methods : s.methods ≡ start.methods
-  pub main : s.main ≡ start.main
-  pub thread : s.class.extends_thread ≡ start.class.extends_thread
-  pub runnable : s.class.implements_runnable ≡ start.class.implements_runnable
-  pub method_table : s.class.methods ≡ start.class.methods
-  pub constructor : s.class.constructor ≡ start.class.constructor
-
--- fields of one declaration, behind those that were made before
-pub record DeclaratorsBoth (own : ClassId) (done : List MadeField) (counts : Counts) (start s : Known) (t : FieldsMade) : Type 0 where
-  pub count : s.fields ≡ length (done ++ t.made)
-  pub counted : t.counts.methods ≡ counts.methods
-  pub entries : FieldsAgree own (done ++ t.made) s.class.fields
-  pub others : ButFields start s
-
-declarator-after : (own : ClassId) (done : List MadeField) (counts : Counts) (start s after : Known) (t made : FieldsMade) (f : MadeField) (x : Text) (e : FieldEntry) →
-    made.made ≡ t.made ++ f ∷ [] → made.counts.methods ≡ t.counts.methods → after.fields ≡ s.fields + 1 → after.class.fields ≡ s.class.fields ++ (x, e) ∷ [] → ButFields s after →
-    e.number.0 ≡ s.fields → FieldMade own e f → DeclaratorsBoth own done counts start s t → DeclaratorsBoth own done counts start after made
-declarator-after own done counts start s after t made f x e more counted fields table others number is known =
-    let longer : done ++ (t.made ++ f ∷ []) ≡ (done ++ t.made) ++ f ∷ [] = sym (append_assoc done t.made (f ∷ [])) in
-    record {
-      count = rw (more, longer) (omega (arith, fields, known.count, length-append (done ++ t.made) (f ∷ [])));
-      counted = counted ∙ known.counted;
-      entries = rw (more, longer, table) (FieldsAgree-snoc own (done ++ t.made) f s.class.fields x e (number ∙ known.count) is known.entries);
-      others = record {
-        own = others.own ∙ known.others.own;
-        methods = others.methods ∙ known.others.methods;
-        main = others.main ∙ known.others.main;
-        thread = others.thread ∙ known.others.thread;
-        runnable = others.runnable ∙ known.others.runnable;
-        method_table = others.method_table ∙ known.others.method_table;
-        constructor = others.constructor ∙ known.others.constructor;
-      };
-    }
-
-declarator-both : (own : ClassId) (done : List MadeField) (counts : Counts) (names : Names) (static volatile : Bool) (of : ValueType) (start : Known) → start.own ≡ own →
-    (s : Known) (t : FieldsMade) (d : FieldDeclarator) → DeclaratorsBoth own done counts start s t →
-    Both (DeclaratorsBoth own done counts start) (and_field static of s d) (makes_field names own static volatile of t d)
-declarator-both own done counts names static volatile of start same s t d known =
-    holds-then (λ (after : Known). Holds (DeclaratorsBoth own done counts start after) (makes_field names own static volatile of t d))
-    (λ (after : List (Text × FieldEntry)). after ≡ s.class.fields ++ (d.name.text, field_entry s static of) ∷ [])
-    (and_entry s.class.fields d.name (field_entry s static of)) _ (entry-added s.class.fields d.name (field_entry s static of)) λ table e.
-    holds-next (DeclaratorsBoth own done counts start _) (initial_constant names of d.constant) _ λ c ok.
-    declarator-after own done counts start s _ t _ _ d.name.text (field_entry s static of) refl refl refl e
-    (record { own = refl; methods = refl; main = refl; thread = refl; runnable = refl; method_table = refl; constructor = refl }) refl
-    (record { declared_in = known.others.own ∙ same; class = refl; static = refl; of = refl }) known
-
-pub fields-both : (own : ClassId) (done : List MadeField) (names : Names) (start : Known) (counts : Counts) (f : Field) → start.own ≡ own → start.fields ≡ length done →
-    FieldsAgree own done start.class.fields → Both (DeclaratorsBoth own done counts start) (and_fields (numbers_alone names) start f) (makes_fields names own counts f)
-fields-both own done names start counts f same count entries =
-    both-same (DeclaratorsBoth own done counts start) (type_of (numbers_alone names) f.type_name) (type_of names f.type_name) _ _ (same-type names f.type_name) λ of.
-    both-along (DeclaratorsBoth own done counts start) (and_field (has is_static_kind f.modifiers) of)
-    (makes_field names own (has is_static_kind f.modifiers) (has is_volatile_kind f.modifiers) of)
-    (declarator-both own done counts names (has is_static_kind f.modifiers) (has is_volatile_kind f.modifiers) of start same)
-    start (record { counts = counts; made = [] })
-    (record {
-      count = rw (append-nil done) count;
-      counted = refl;
-      entries = rw (append-nil done) entries;
-      others = record { own = refl; methods = refl; main = refl; thread = refl; runnable = refl; method_table = refl; constructor = refl };
-    })
-    f.declarators
+use Rattle.jr_typing_rules.proofs.Known.{get-append, get-last}
+use Rattle.jr_typing_rules.proofs.AgreeingFields.{FieldsAgree, AreCounted, AreBefore}
 
 -- ---- methods and constructors
 
@@ -187,6 +93,8 @@ pub record MembersAgree (program : Resolution) (own : ClassId) (first : Option M
   pub below : MainBelow s.main s.methods
   pub later : MainLater first (length done) s.main
   pub fields : FieldsAgree own fs s.class.fields
+  pub counted_fields : AreCounted own fs s.class.fields
+  pub field_classes : AreBefore (own.0 + 1) fs
   pub methods : MethodsAgree program s.main own ms s.class.methods
   pub constructor : ConstructorAgrees program s.main own ms s.class.constructor
   pub owners : (n : ℕ) (m : MadeMethod) → slice_get ms n ≡ Some m → (m.class ≡ own) ⊎ (slice_get done n ≡ Some m)
@@ -208,6 +116,8 @@ method-after program own first k done fs ms counted s m class is only same metho
   below = main-after-below s is known.below;
   later = main-later-on first s.main (main_after s is) (length done) s.methods known.enough known.later (main-after-later s is only);
   fields = rw same known.fields;
+  counted_fields = rw same known.counted_fields;
+  field_classes = known.field_classes;
   methods = methods;
   constructor = constructor;
   owners = with-last (λ n x. (x.class ≡ own) ⊎ (slice_get done n ≡ Some x)) ms m known.owners (inl owner);

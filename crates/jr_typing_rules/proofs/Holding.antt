@@ -110,3 +110,17 @@ pub Each-get : {A : Type 0} (P : A → Type 0) (xs : List A) (k : ℕ) (x : A) �
 Each-get P [] k x all e = absurd (cc)
 Each-get P (y ∷ ys) zero x all e = let same : y ≡ x = cc in rw same at all.0
 Each-get P (y ∷ ys) (suc k) x all e = Each-get P ys k x all.1 e
+
+-- what always holds
+pub always : {A : Type 0} (xs : List A) → Each (λ x. Unit {0}) xs
+always [] = tt
+always (x ∷ xs) = (tt, always xs)
+
+-- what holds of each item in its place
+pub Each-placed : {A : Type 0} (P : A → Type 0) (xs : List A) → ((k : ℕ) (x : A) → slice_get xs k ≡ Some x → P x) → Each P xs
+Each-placed P [] all = tt
+Each-placed P (x ∷ xs) all = (all 0 x refl, Each-placed P xs λ k y found. all (suc k) y found)
+
+pub Each-both : {A : Type 0} (P Q : A → Type 0) (xs : List A) → Each P xs → Each Q xs → Each (λ x. P x × Q x) xs
+Each-both P Q [] ps qs = tt
+Each-both P Q (x ∷ xs) ps qs = ((ps.0, qs.0), Each-both P Q xs ps.1 qs.1)

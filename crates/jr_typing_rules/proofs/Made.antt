@@ -1,5 +1,5 @@
 -- What the pass on code makes of the members of a source: one method of each that is written, and numbers that count.
-use Rattle.std.proofs.Common.{◌≡◌, ◌==◌, ℕ, ◌+◌, Bool, true, false, List, [], ◌∷◌, ◌++◌, length, map, Option, Some, None, slice_get, refl, ap, ◌∙◌, append-nil, arith}
+use Rattle.std.proofs.Common.{◌≡◌, ◌==◌, ℕ, zero, suc, ◌+◌, Bool, true, false, List, [], ◌∷◌, ◌++◌, length, map, Option, Some, None, slice_get, refl, ap, ◌∙◌, append-nil, arith}
 use Rattle.std.specs.List.{flat_map}
 use Rattle.std.proofs.lemmas.List.{length-append}
 use Rattle.std.proofs.lemmas.Grind.{flat_map-append}
@@ -117,6 +117,13 @@ MadeFrom-append program n last [] ms' (t ∷ ts) ts' e made more = absurd made
 MadeFrom-append program n last (m ∷ ms) ms' [] ts' e made more = absurd made
 MadeFrom-append program n last (m ∷ ms) ms' (t ∷ ts) ts' e made more =
     (made.0, MadeFrom-append program (n + 1) last ms ms' ts ts' (omega (arith, e)) made.1 more)
+
+-- each has its number
+pub number-placed : (r : Resolution) (n : ℕ) (ms : List MadeMethod) (ts : List unit.Method) (k : ℕ) (m : MadeMethod) → MadeFrom r n ms ts → slice_get ms k ≡ Some m → m.number.0 ≡ n + k
+number-placed r n [] ts k m made found = absurd (cc)
+number-placed r n (x ∷ ms) [] k m made found = absurd made
+number-placed r n (x ∷ ms) (t ∷ ts) zero m made found = let same : x ≡ m = cc in omega (arith, made.0.number, ap (λ (m : MadeMethod). m.number.0) same)
+number-placed r n (x ∷ ms) (t ∷ ts) (suc k) m made found = omega (arith, number-placed r (n + 1) ms ts k m made.1 found)
 
 -- ---- fields in order
 

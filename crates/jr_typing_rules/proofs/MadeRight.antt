@@ -52,11 +52,11 @@ none-caught (t ∷ ts) = (kind-not-caught t, none-caught ts)
 
 -- ---- formals
 
-few-none : (o : Option Formal) → Holds (λ u. o ≡ None) (few_formals o)
+pub few-none : (o : Option Formal) → Holds (λ u. o ≡ None) (few_formals o)
 few-none None = refl
 few-none (Some f) = tt
 
-none-past : {A : Type 0} (xs : List A) (n : ℕ) → slice_get xs n ≡ None → length xs < n + 1
+pub none-past : {A : Type 0} (xs : List A) (n : ℕ) → slice_get xs n ≡ None → length xs < n + 1
 none-past [] n e = omega arith
 none-past (x ∷ xs) zero e = absurd (cc)
 none-past (x ∷ xs) (suc n) e = omega (arith, none-past xs n e)

@@ -1,10 +1,11 @@
 -- The names of an accepted source agree with its program.
-use Rattle.std.proofs.Common.{◌≡◌, ◌<◌, ℕ, ◌+◌, Bool, true, false, cond, List, [], ◌∷◌, ◌++◌, length, map, Option, Some, None, slice_get, refl, ap, sym, ◌∙◌, arith, option_and_then}
-use Rattle.std.specs.List.{flat_map}
+use Rattle.std.proofs.Common.{◌≡◌, ◌<◌, ℕ, ◌+◌, Bool, true, false, cond, List, [], ◌∷◌, ◌++◌, length, map, take, Option, Some, None, slice_get, refl, ap, sym, ◌∙◌, arith, option_and_then}
+use Rattle.std.specs.List.{flat_map, count_by}
 use Rattle.std.specs.Map.{lookup}
 use Rattle.std.specs.Str.{bytes_eq}
 use Rattle.std.specs.Option.{option_map}
-use Rattle.std.proofs.lemmas.List.{length-append, length-map}
+use Rattle.std.proofs.lemmas.List.{length-append, length-map, take-map}
+use Rattle.std.proofs.lemmas.List.Sums.{sum_by-cons}
 use Rattle.std.proofs.lemmas.Option.{slice_get-map}
 use Rattle.jr_base.specs.declared.number.Span.{Span}
 use Rattle.jr_base.specs.declared.number.Position.{Position}
@@ -16,6 +17,7 @@ use Rattle.jr_program.specs.Programs.{Program, Note, constructor_of}
 use Rattle.jr_base.specs.declared.action.Elem.{Elem}
 use Rattle.jr_base.specs.declared.action.Elem.TheVariants as elem
 use Rattle.jr_program.specs.ClauseKinds.{IsClass}
+use Rattle.jr_program.specs.Slots.{is_of, slot_of}
 use Rattle.jr_program.specs.WellFormed.{ElementNamed}
 use Rattle.jr_typing_rules.specs.declared.words.ValueType.{ValueType}
 use Rattle.jr_typing_rules.specs.declared.words.ValueType.TheVariants as type
@@ -33,7 +35,8 @@ use Rattle.jr_typing_rules.specs.Whole.{fields_of, methods_of, number_of, progra
 use Rattle.jr_typing_rules.specs.Agreement.{IsTypeIn, HasField, HasMethod, HasConstructor, AgreesWith}
 use Rattle.jr_typing_rules.proofs.Holding.{Holds, holds-good, holds-weaker, holds-next, holds-then, holds-require, holds-found, holds-along, Each, Each-get, same-good}
 use Rattle.jr_typing_rules.proofs.Both.{both-along}
-use Rattle.jr_typing_rules.proofs.Agreeing.{FieldAgrees, MethodAgrees, ConstructorAgrees}
+use Rattle.jr_typing_rules.proofs.Agreeing.{MethodAgrees, ConstructorAgrees}
+use Rattle.jr_typing_rules.proofs.AgreeingFields.{lies, FieldAgrees}
 use Rattle.jr_typing_rules.proofs.TypesNamed.{ElementNames, TypeNames, ResultNames, ClassNames, resolved-names}
 use Rattle.jr_typing_rules.proofs.Agreed.{TablesAgree, ClassesAgree, class-agrees}
 
@@ -66,6 +69,7 @@ passes-agree ks =
       beside = λ n k found. absurd (cc);
       numbers = λ n k found. absurd (cc);
       owners = λ n m found. absurd (cc);
+      field_classes = tt;
     })
     ks) e)
     λ c agree. (all, refl, is, agree)
@@ -125,6 +129,22 @@ has-field r c all ns own e a = (
   record { declared_in = a.2.declared_in; class = a.2.class; static = a.2.static; kind = ap kind_of a.2.of },
 )
 
+count-map : {A B : Type 0} (p : B → Bool) (f : A → B) (xs : List A) → count_by p (map f xs) ≡ count_by (λ x. p (f x)) xs
+count-map p f [] = refl
+count-map p f (x ∷ xs) =
+    sum_by-cons (λ y. cond (p y) 1 0) (f x) (map f xs) ∙ ap (λ n. cond (p (f x)) 1 0 + n) (count-map p f xs) ∙ sym (sum_by-cons (λ x. cond (p (f x)) 1 0) x xs)
+
+-- the field lies where its entry says
+has-slot : (r : Resolution) (c : ClassesMade) (all : List Clause) (ns : List Note) (own : ClassId) (e : FieldEntry) → FieldAgrees own (flat_map fields_of c.made) e →
+    e.slot ≡ slot_of (program_of r c all ns) e.number
+has-slot r c all ns own e a =
+    let fs = flat_map fields_of c.made in
+    let found : slice_get (map program_field fs) e.number.0 ≡ Some (program_field a.0) = slice_get-map program_field fs e.number.0 ∙ ap (option_map program_field) a.1 in
+    let count : count_by (is_of a.0.class a.0.is_static) (take e.number.0 (map program_field fs)) ≡ count_by (lies a.0.class a.0.is_static) (take e.number.0 fs) =
+    ap (count_by (is_of a.0.class a.0.is_static)) (take-map program_field e.number.0 fs) ∙ count-map (is_of a.0.class a.0.is_static) program_field (take e.number.0 fs) in
+    let own_count : e.slot ≡ count_by (lies a.0.class a.0.is_static) (take e.number.0 fs) = rw (a.2.class, a.2.static) a.3 in
+    rw found (own_count ∙ sym count)
+
 has-method : (r : Resolution) (c : ClassesMade) (all : List Clause) (ns : List Note) (own : ClassId) (constructs : Bool) (e : MethodEntry) →
     MethodAgrees r (Some r.main) own constructs (flat_map methods_of c.made) e → HasMethod (program_of r c all ns) own constructs e
 has-method r c all ns own constructs e a = (
@@ -156,10 +176,10 @@ constructor-found r c all ns own k made named_class is number =
 -- ---- types
 
 -- a name stands for classes of the program alone
-abbrev NamesClasses : Program → List (Text × ClassId) → Type 0
+abbrev pub NamesClasses : Program → List (Text × ClassId) → Type 0
 NamesClasses program numbers = (x : Text) (c : ClassId) → named x numbers ≡ Some c → IsClass program c
 
-element-in : (program : Program) (numbers : List (Text × ClassId)) → NamesClasses program numbers → (e : Elem) → ElementNames numbers e → ElementNamed program e
+pub element-in : (program : Program) (numbers : List (Text × ClassId)) → NamesClasses program numbers → (e : Elem) → ElementNames numbers e → ElementNamed program e
 element-in program numbers classes (elem.Class c) is = classes is.0 c is.1
 element-in program numbers classes elem.Int is = tt
 element-in program numbers classes elem.Long is = tt
@@ -168,7 +188,7 @@ element-in program numbers classes elem.Object is = tt
 element-in program numbers classes elem.Thread is = tt
 element-in program numbers classes elem.Runnable is = tt
 
-type-in : (program : Program) (numbers : List (Text × ClassId)) → NamesClasses program numbers → (t : ValueType) → TypeNames numbers t → IsTypeIn program t
+pub type-in : (program : Program) (numbers : List (Text × ClassId)) → NamesClasses program numbers → (t : ValueType) → TypeNames numbers t → IsTypeIn program t
 type-in program numbers classes type.Null is = tt
 type-in program numbers classes (type.Single e) is = element-in program numbers classes e is
 type-in program numbers classes (type.ArrayOf e) is = element-in program numbers classes e is
@@ -198,6 +218,9 @@ agreed ks r c all ns numbered_classes (s, classes, main, agree) typed =
       fields = λ n x e found.
           let class = from-some (slice_get r.names.classes n.0) (λ (k : Class). lookup (bytes_eq x) k.fields) e found in
           has-field r c all ns n e (lookup-each (FieldAgrees n (flat_map fields_of c.made)) (bytes_eq x) class.0.fields e (tables n class.0 class.1).fields class.2);
+      slots = λ n x e found.
+          let class = from-some (slice_get r.names.classes n.0) (λ (k : Class). lookup (bytes_eq x) k.fields) e found in
+          has-slot r c all ns n e (lookup-each (FieldAgrees n (flat_map fields_of c.made)) (bytes_eq x) class.0.fields e (tables n class.0 class.1).fields class.2);
       methods = λ n x e found.
           let class = from-some (slice_get r.names.classes n.0) (λ (k : Class). lookup (bytes_eq x) k.methods) e found in
           has-method r c all ns n false e

@@ -59,7 +59,7 @@ fields-fit position ks program e =
 
 -- ---- headers of methods
 
-from-map : {A B : Type 0} (f : A → B) (xs : List A) (k : ℕ) (y : B) → slice_get (map f xs) k ≡ Some y → (x : A) × (slice_get xs k ≡ Some x) × (f x ≡ y)
+pub from-map : {A B : Type 0} (f : A → B) (xs : List A) (k : ℕ) (y : B) → slice_get (map f xs) k ≡ Some y → (x : A) × (slice_get xs k ≡ Some x) × (f x ≡ y)
 from-map f [] k y e = absurd (cc)
 from-map f (x ∷ xs) zero y e = (x, refl, cc)
 from-map f (x ∷ xs) (suc k) y e = from-map f xs k y e
@@ -96,7 +96,7 @@ header-fits r c all ns m made (s, classes, main, agree) names found right = reco
       );
 }
 
-headers-fit-made : (r : Resolution) (c : ClassesMade) (all : List Clause) (ns : List Note) → PassesAgree r c → AgreesWith r.names (program_of r c all ns) → AllRight c →
+pub headers-fit-made : (r : Resolution) (c : ClassesMade) (all : List Clause) (ns : List Note) → PassesAgree r c → AgreesWith r.names (program_of r c all ns) → AllRight c →
     HeadersFit (program_of r c all ns)
 headers-fit-made r c all ns agree names right m method found =
     let made = from-map program_method (flat_map methods_of c.made) m.0 method found in

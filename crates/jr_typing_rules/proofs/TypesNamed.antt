@@ -43,11 +43,11 @@ abbrev pub ResultNames : List (Text × ClassId) → Option ValueType → Type 0
 ResultNames numbers None = Unit {0}
 ResultNames numbers (Some t) = TypeNames numbers t
 
-holds-cond : {A : Type 0} (P : A → Type 0) (b : Bool) (t u : Typing A) → Holds P t → Holds P u → Holds P (cond b t u)
+pub holds-cond : {A : Type 0} (P : A → Type 0) (b : Bool) (t u : Typing A) → Holds P t → Holds P u → Holds P (cond b t u)
 holds-cond P true t u yes_holds no_holds = yes_holds
 holds-cond P false t u yes_holds no_holds = no_holds
 
-element-names : (names : Names) (t : ElementType) → Holds (ElementNames names.numbers) (element_type names t)
+pub element-names : (names : Names) (t : ElementType) → Holds (ElementNames names.numbers) (element_type names t)
 unfolding element_type
 element-names names element_name.Int = tt
 element-names names element_name.Long = tt

@@ -1,10 +1,11 @@
 -- What the names of a source stand for in its program: each entry of a class's tables is the field, the method or the
--- constructor of its number, and its types speak of classes of the program.
+-- constructor of its number, a field's lies in its slot, and its types speak of classes of the program.
 use Rattle.std.specs.Prelude.{◌≡◌, Bool, true, false, length, map, Option, Some, None}
 use Rattle.std.specs.Option.{option_map}
 use Rattle.jr_base.specs.declared.number.ClassId.{ClassId}
 use Rattle.jr_program.specs.ClauseKinds.{IsClass}
 use Rattle.jr_program.specs.Programs.{Program, Field, Method, field_at, method_at, constructor_of}
+use Rattle.jr_program.specs.Slots.{slot_of}
 use Rattle.jr_program.specs.WellFormed.{ElementNamed}
 use Rattle.jr_typing_rules.specs.declared.words.ValueType.{ValueType}
 use Rattle.jr_typing_rules.specs.declared.words.ValueType.TheVariants as type
@@ -51,5 +52,6 @@ pub record AgreesWith (names : Names) (program : Program) : Type 0 where
   pub fields : (c : ClassId) (x : Text) (entry : FieldEntry) → field_in names c x ≡ Some entry → HasField program c entry
   pub methods : (c : ClassId) (x : Text) (entry : MethodEntry) → method_in names c x ≡ Some entry → HasMethod program c false entry
   pub constructors : (c : ClassId) (class : Class) → class_at names c ≡ Some class → HasConstructor program c class.constructor
+  pub slots : (c : ClassId) (x : Text) (entry : FieldEntry) → field_in names c x ≡ Some entry → entry.slot ≡ slot_of program entry.number
   pub field_types : (c : ClassId) (x : Text) (entry : FieldEntry) → field_in names c x ≡ Some entry → IsTypeIn program entry.of
   pub result_types : (c : ClassId) (x : Text) (entry : MethodEntry) (t : ValueType) → method_in names c x ≡ Some entry → entry.result ≡ Some t → IsTypeIn program t

@@ -13,7 +13,7 @@ ghost use Rattle.jr_program.specs.Clauses.{Clause};
 ghost use Rattle.jr_program.specs.Programs as parts;
 ghost use Rattle.jr_program.specs.Programs.{Program, Field, Method, class_at, field_at, method_at, clause_at};
 ghost use Rattle.jr_program.specs.Sites.{due_at_site};
-ghost use Rattle.jr_program.specs.WellFormed.{MainFits, ClassFits, FieldFits, EndsAsItMust, most_due};
+ghost use Rattle.jr_program.specs.WellFormed.{MainFits, ClassFits, FieldFits, EndsAsItMust, Fits, FitsOwner, IsNumbered, WellFormed, scope_of, most_due};
 ghost use Rattle.jr_ast.specs.Units.{Class};
 ghost use Rattle.jr_typing_rules.specs.Answers.{Good};
 ghost use Rattle.jr_typing_rules.specs.Resolution.{Resolution, resolve};
@@ -49,8 +49,8 @@ pub fn bodies_end()
 {}
 
 /// The names of an accepted source agree with its program: each entry of a class's tables is the field, the method or
-/// the constructor of its number, with its class, whether it is static, and the kinds of its types, which speak of classes
-/// of the program.
+/// the constructor of its number, with its class, a field's slot, whether it is static, and the kinds of its types, which
+/// speak of classes of the program.
 pub fn names_agree()
     ensures { (position : Span → Position) (classes : List Class) (names : Resolution) (program : Program) →
         resolve classes ≡ Good names → typing position classes ≡ Good program → AgreesWith names.names program }
@@ -86,4 +86,23 @@ pub fn clauses_are_owned()
 /// A program has as many classes, fields, methods and clauses as its source writes.
 pub fn members_are_counted()
     ensures { (position : Span → Position) (classes : List Class) (program : Program) → typing position classes ≡ Good program → IsCounted classes program }
+{}
+
+/// The body of a method of an accepted source fits its program: each operand has the kind that its operator takes, each
+/// number names something, and each jump has its loop (JLS 14, 15).
+pub fn bodies_fit()
+    ensures { (position : Span → Position) (classes : List Class) (program : Program) → typing position classes ≡ Good program →
+        (m : MethodId) (method : Method) → method_at program m ≡ Some method → Fits (scope_of program m method) method.body }
+{}
+
+/// What a clause of an accepted source states has its kinds where its owner stands: a method's clauses name its formals,
+/// an `assert` the variables in scope (JML Reference Manual, "Predicates and Specification Expressions").
+pub fn clauses_fit()
+    ensures { (position : Span → Position) (classes : List Class) (program : Program) → typing position classes ≡ Good program →
+        (c : ClauseId) (clause : Clause) → clause_at program c ≡ Some clause → FitsOwner program clause clause.owner }
+{}
+
+/// An accepted source is a well-formed program, where its numbers have 32 bits.
+pub fn typed_is_well_formed()
+    ensures { (position : Span → Position) (classes : List Class) (program : Program) → typing position classes ≡ Good program → IsNumbered program → WellFormed program }
 {}

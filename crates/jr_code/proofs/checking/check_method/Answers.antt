@@ -23,8 +23,8 @@ returns-then-length-eq0-clause-err c = empty_breaks c.args.code.now c.args.metho
 
 pub returns : goal.returns
 returns c =
-    let w = well_formed c.args.code.now c.args.method.now c.in_ok-shapes.shapes.items c.settle.new.shapes.items c.deepest-depth.result (c.if-not-locals_begin.ensures.0 refl)
+    let w = well_formed c.args.code.now c.args.method.now c.in_ok-shapes.shapes c.settle.new.shapes c.deepest.result (c.if-not-locals_begin.ensures.0 refl)
     (subst NoneCaught c.as_slice.ensures (c.if-not-are_values.ensures.0 refl)) (λ e. let h = c.if-gives_caught.ensures.1 e in absurd (cc))
     c.in_default.ensures c.in_ok-shapes.ensures.size c.in_ok-shapes.ensures.begins c.in_ok-settle.ensures.ok c.in_ok-settle.ensures.settled c.in_ok-settle.ensures.caught
-    c.deepest-depth.ensures in
+    c.deepest.ensures in
     record { ok = w.0; depth = w.1; err = tt }

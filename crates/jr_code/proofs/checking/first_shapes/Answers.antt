@@ -7,7 +7,7 @@ use Rattle.jr_code.proofs.Methods.{nothing_there}
 use Rattle.jr_code.proofs.checking.first_shapes.Goals as goal
 
 pub reach-requires-clause-path : goal.reach-requires-clause-path
-reach-requires-clause-path c = subst (Reaches (plain_of c.args.code.now) (plain_method c.args.code.now c.args.method.now) 0) (sym c.new.ensures) Begins
+reach-requires-clause-path c = subst (Reaches (plain_of c.args.code.now) (plain_method c.args.code.now c.args.method.now) 0) (sym c.new-nothing.ensures) Begins
 
 pub reach-requires-clause-sound : goal.reach-requires-clause-sound
 reach-requires-clause-sound c = λ at ks e.

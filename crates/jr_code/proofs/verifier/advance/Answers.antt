@@ -10,11 +10,11 @@ pub returns-then-to-len-clause-err : goal.returns-then-to-len-clause-err
 returns-then-to-len-clause-err c =
     let l = c.requires.leads in
     let size = length-map c.args.method.now.instrs.items (plain (tables_of c.args.code.now)) in
-    Rule c.args.at (RunsOff c.args.at c.args.to l.leaves.before c.args.kinds l.instruction (c.requires.sound c.args.at l.leaves.before l.leaves.shape)
+    Rule c.args.at (RunsOff c.args.at c.args.to l.leaves.before c.args.kinds.now l.instruction (c.requires.sound c.args.at l.leaves.before l.leaves.shape)
     l.leaves.stands l.leaves.effect l.next (omega (arith, size)))
 
 pub reach-requires-clause-path : goal.reach-requires-clause-path
 reach-requires-clause-path c =
     let l = c.requires.leads in
-    Follows c.args.at c.args.to l.leaves.before c.args.kinds l.instruction (c.requires.sound c.args.at l.leaves.before l.leaves.shape)
+    Follows c.args.at c.args.to l.leaves.before c.args.kinds.now l.instruction (c.requires.sound c.args.at l.leaves.before l.leaves.shape)
     l.leaves.stands l.leaves.effect l.next

@@ -11,10 +11,10 @@ loop-number-preserved c =
     let m = plain_method c.args.code.now c.args.method.now in
     let i = c.loop-number.invariant in
     let w = c.in_ok-woken.ensures.ok in
-    let kept = caught_keeps code m c.loop-number.shapes.items c.catch.new.shapes.items c.loop-number.number (length c.args.method.now.instrs.items) c.in_ok-woken.woken i.sound i.size w in
+    let kept = caught_keeps code m c.loop-number.shapes c.catch.new.shapes c.loop-number.number (length c.args.method.now.instrs.items) c.in_ok-woken.woken i.sound i.size w in
     record {
-      caught = subst (Caught code m c.args.shapes.now.items c.catch.new.shapes.items (c.loop-number.number + 1)) (sym c.lower-low.ensures)
-          (caught_more code m c.args.shapes.now.items c.loop-number.shapes.items c.catch.new.shapes.items c.loop-number.number c.loop-number.low c.in_ok-woken.woken i.caught w);
+      caught = subst (Caught code m c.args.shapes.now c.catch.new.shapes (c.loop-number.number + 1)) (sym c.lower-low.ensures)
+          (caught_more code m c.args.shapes.now c.loop-number.shapes c.catch.new.shapes c.loop-number.number c.loop-number.low c.in_ok-woken.woken i.caught w);
       sound = kept.0;
       size = kept.1;
     }
@@ -22,5 +22,5 @@ loop-number-preserved c =
 pub returns-clause-ok : goal.returns-clause-ok
 returns-clause-ok c =
     let all : c.loop-number.number ≡ length c.args.method.now.regions.items = omega arith in
-    subst (λ n. Caught (plain_of c.args.code.now) (plain_method c.args.code.now c.args.method.now) c.args.shapes.now.items c.loop-number.shapes.items n c.loop-number.low) all
+    subst (λ n. Caught (plain_of c.args.code.now) (plain_method c.args.code.now c.args.method.now) c.args.shapes.now c.loop-number.shapes n c.loop-number.low) all
     c.loop-number.invariant.caught

@@ -6,7 +6,7 @@ use Rattle.jr_code.proofs.verifier.catches.Given as goal
 
 abbrev pub invariant-loop-number : goal.invariant-loop-number
 invariant-loop-number l = record {
-  caught : Caught (plain_of l.fn.code) (plain_method l.fn.code l.fn.method) l.initial.shapes.items l.shapes.items l.number l.low;
-  sound : OnPaths (plain_of l.fn.code) (plain_method l.fn.code l.fn.method) l.shapes.items;
-  size : length l.shapes.items ≡ length l.fn.method.instrs.items;
+  caught : Caught (plain_of l.fn.code) (plain_method l.fn.code l.fn.method) l.initial.shapes l.shapes l.number l.low;
+  sound : OnPaths (plain_of l.fn.code) (plain_method l.fn.code l.fn.method) l.shapes;
+  size : length l.shapes ≡ length l.fn.method.instrs.items;
 }

@@ -8,5 +8,5 @@ use Rattle.jr_code.proofs.verifier.jump.Goals as goal
 pub returns-then-to-at-clause-err : goal.returns-then-to-at-clause-err
 returns-then-to-at-clause-err c =
     let over = c.if-to-at.true in
-    Rule c.args.at (wrong_way (plain_of c.args.code.now) (plain_method c.args.code.now c.args.method.now) c.args.shapes.now.items c.args.at (flows.Jump c.args.to) c.args.kinds
+    Rule c.args.at (wrong_way (plain_of c.args.code.now) (plain_method c.args.code.now c.args.method.now) c.args.shapes.now c.args.at (flows.Jump c.args.to) c.args.kinds.now
     c.requires.leaves c.requires.sound (λ (h : WayBy c.args.at (flows.Jump c.args.to)). let r : ⊥ = omega arith in r))

@@ -22,7 +22,7 @@ returns-then-not-branch-clause-err c =
 
 pub returns-clause-ok : goal.returns-clause-ok
 returns-clause-ok c =
-    leaves_by c.args.code.now c.args.method.now c.args.shapes.now.items c.args.at c.args.kinds.now c.apply.new.kinds c.get.result.now c.in-Some.instruction c.flow.result
+    leaves_by c.args.code.now c.args.method.now c.args.shapes.now c.args.at c.args.kinds.now c.apply.new.kinds c.get.result.now c.in-Some.instruction c.flow.result
     c.get.ensures c.requires.there (c.in-Some.ensures.means (tables_of c.args.code.now))
     (subst (HasEffect (plain_of c.args.code.now) (plain_method c.args.code.now c.args.method.now) (meaning (tables_of c.args.code.now) c.in-Some.instruction) c.args.kinds.now c.apply.new.kinds)
     c.if-not-branch.false c.in_ok-apply.ensures)

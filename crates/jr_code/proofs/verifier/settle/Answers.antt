@@ -8,7 +8,7 @@ pub loop-start-preserved : goal.loop-start-preserved
 loop-start-preserved c =
     let x = c.loop-start.invariant.extends in
     let y = c.in_ok-sweep.ensures.ok in
-    let all = settled_more (plain_of c.args.code.now) (plain_method c.args.code.now c.args.method.now) c.args.shapes.now.items c.loop-start.shapes.items c.sweep.new.shapes.items
-    c.catches.new.shapes.items (length c.args.method.now.instrs.items) (length c.args.method.now.regions.items) c.in_ok-start.start x y
+    let all = settled_more (plain_of c.args.code.now) (plain_method c.args.code.now c.args.method.now) c.args.shapes.now c.loop-start.shapes c.sweep.new.shapes
+    c.catches.new.shapes (length c.args.method.now.instrs.items) (length c.args.method.now.regions.items) c.in_ok-start.start x y
     c.in_ok-sweep.ensures.settled (y.size ∙ x.size ∙ c.requires.size) c.in_ok-start.ensures.ok in
     record { extends = all.0; pending = all.1 }

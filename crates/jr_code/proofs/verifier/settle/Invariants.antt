@@ -6,9 +6,9 @@ use Rattle.jr_code.proofs.verifier.settle.Given as goal
 
 abbrev pub invariant-loop-start : goal.invariant-loop-start
 invariant-loop-start l = record {
-  extends : Extends (plain_of l.fn.code) (plain_method l.fn.code l.fn.method) l.initial.shapes.items l.shapes.items 0;
-  pending : Pending (plain_of l.fn.code) (plain_method l.fn.code l.fn.method) l.shapes.items (length l.fn.method.instrs.items) (length l.fn.method.regions.items) l.start;
+  extends : Extends (plain_of l.fn.code) (plain_method l.fn.code l.fn.method) l.initial.shapes l.shapes 0;
+  pending : Pending (plain_of l.fn.code) (plain_method l.fn.code l.fn.method) l.shapes (length l.fn.method.instrs.items) (length l.fn.method.regions.items) l.start;
 }
 
 abbrev pub decreases-loop-start : goal.decreases-loop-start
-decreases-loop-start l = rounds l.shapes.items l.start
+decreases-loop-start l = rounds l.shapes l.start

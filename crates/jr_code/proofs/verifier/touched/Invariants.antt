@@ -2,4 +2,4 @@ use Rattle.jr_code.specs.Verifier.{Untouched}
 use Rattle.jr_code.proofs.verifier.touched.Given as goal
 
 abbrev pub invariant-loop-at : goal.invariant-loop-at
-invariant-loop-at l = Untouched l.shapes.items l.from l.at
+invariant-loop-at l = Untouched l.shapes l.from l.at

@@ -1,8 +1,10 @@
-use Rattle.jr_ast.specs.Programs.{program_of}
-use Rattle.jr_drive.specs.Walk.{stand_view}
-use Rattle.jr_drive.specs.Reached.{Reached}
+use Rattle.std.proofs.Common.{◌-◌}
+use Rattle.jr_program.specs.UnitViews.{program_of}
+use Rattle.jr_drive.specs.Runs.{GoesOn}
 use Rattle.jr_drive.proofs.driver.run.Given as goal
 
--- so many steps were made
-abbrev pub invariant-loop-number : goal.invariant-loop-number
-invariant-loop-number l = Reached (program_of l.unit) l.budget (stand_view l.guest) l.fields l.journal.entries l.number
+abbrev pub invariant-loop-run : goal.invariant-loop-run
+invariant-loop-run l = GoesOn (program_of l.program) l.budget l.journal.entries l.run
+
+abbrev pub decreases-loop-run : goal.decreases-loop-run
+decreases-loop-run l = l.budget - l.run.steps

@@ -1,6 +1,6 @@
 use Rattle.std.proofs.Common.{◌≡◌, map, drop}
 use Rattle.jr_ast.specs.Expressions.{exprs, view_expr}
-use Rattle.jr_ast.specs.Programs.{expr_view}
+use Rattle.jr_first_journal.specs.Programs.{expr_view}
 use Rattle.jr_first_path.specs.Sums.{sums}
 use Rattle.jr_first_path.specs.Views.{view_scope}
 use Rattle.jr_first_path.proofs.Turns.{behind}

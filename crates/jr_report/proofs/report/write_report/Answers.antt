@@ -1,11 +1,10 @@
 use Rattle.std.proofs.Common.{refl}
-use Rattle.jr_ast.specs.Programs.{program_of}
-use Rattle.jr_report.proofs.Fitting.{legal-fits}
+use Rattle.jr_program.specs.UnitViews.{program_of}
 use Rattle.jr_report.proofs.Pieces.{leads-fault, after-out, after-violations, after-uncaught, after-finish}
 use Rattle.jr_report.proofs.report.write_report.Goals as goal
 
-pub write_out_lines-requires : goal.write_out_lines-requires
-write_out_lines-requires g c = legal-fits (program_of c.args.run.now.opening.unit) c.args.run.now.opening.budget c.args.run.now.journal.entries c.requires.right.legal
+pub write_violation_lines-requires-clause-legal : goal.write_violation_lines-requires-clause-legal
+write_violation_lines-requires-clause-legal g c = (c.args.run.now.opening.budget, c.requires.legal)
 
 pub returns-in-WriteFault-write_violation_lines-clause-bytes : goal.returns-in-WriteFault-write_violation_lines-clause-bytes
 returns-in-WriteFault-write_violation_lines-clause-bytes g c =

@@ -1,4 +1,4 @@
-use Rattle.std.proofs.Common.{◌≡◌, List, map, drop}
+use Rattle.std.proofs.Common.{List, map, drop}
 use Rattle.jr_code.specs.Instructions.{Code}
 use Rattle.jr_code.specs.Machine.{StackFrame, Throws, Goes}
 use Rattle.jr_code.specs.Views.{region_of}

@@ -1,4 +1,4 @@
-use Rattle.std.proofs.Common.{◌≡◌, ◌+◌, ◌≤◌, ◌++◌, ◌∷◌, [], map, take, length}
+use Rattle.std.proofs.Common.{◌≡◌, ◌+◌, ◌≤◌, ◌∷◌, map, take, length}
 use Rattle.jr_base.specs.Threads.{reference, value_at}
 use Rattle.jr_thread_machine.proofs.text_rows.environment.Given as goal
 

@@ -1,77 +1,14 @@
 -- Each arm is what its row does.
-use Rattle.std.proofs.Common.{◌≡◌, ◌+◌, ◌∷◌, ap, ◌∙◌, rules}
-use Rattle.std.proofs.lemmas.Int.{to_z-of_z}
-use mir.Val.{to_z, of_z}
-use mir.Syntax.{w32}
-use Rattle.jr_base.specs.Content.{Holds}
-use Rattle.jr_base.specs.declared.value.Value.TheVariants as values
-use Rattle.jr_code.specs.Machine.{stack_frame}
 use Rattle.jr_code.specs.Views.{tables_of, plain_of}
 use Rattle.jr_code.specs.declared.instruction.Instruction.TheVariants as rows
-use Rattle.jr_thread_machine.specs.Frames.{frame_of}
-use Rattle.jr_thread_machine.proofs.Operators.{pushed}
 use Rattle.jr_thread_machine.proofs.Tables.{of_row, of_row_ok}
 use Rattle.jr_thread_machine.proofs.frame.Frame.act.Goals as goal
-
-pub returns-in-PushInt-clause-ok : goal.returns-in-PushInt-clause-ok
-returns-in-PushInt-clause-ok c =
-    let f = c.args.self.now in
-    let n = c.in-PushInt.n in
-    let same : to_z w32 (of_z w32 n) ≡ n = to_z-of_z w32 n (search rules) in
-    of_row (plain_of c.args.code.now) (tables_of c.args.code.now) c.args.instruction (rows.PushInt n) _ _ _ c.in-PushInt.is
-    (pushed (plain_of c.args.code.now) (values.Int n) (frame_of f) (frame_of c.int.new.self) c.int.result c.int.ensures.goes
-    (c.int.ensures.frame ∙ ap (λ z. stack_frame f.method f.this (f.at + 1) (Holds (values.Int z) ∷ f.stack.items) f.locals) same))
-
-pub returns-in-PushBool-clause-ok : goal.returns-in-PushBool-clause-ok
-returns-in-PushBool-clause-ok c = of_row (plain_of c.args.code.now) (tables_of c.args.code.now) c.args.instruction (rows.PushBool c.in-PushBool.b) _ _ _ c.in-PushBool.is (c.constant.ensures (plain_of c.args.code.now))
-
-pub returns-in-PushNull-clause-ok : goal.returns-in-PushNull-clause-ok
-returns-in-PushNull-clause-ok c = of_row (plain_of c.args.code.now) (tables_of c.args.code.now) c.args.instruction rows.PushNull _ _ _ c.in-PushNull.is (c.constant-in-PushNull.ensures (plain_of c.args.code.now))
 
 pub returns-in-PushClass-clause-ok : goal.returns-in-PushClass-clause-ok
 returns-in-PushClass-clause-ok c = of_row_ok (plain_of c.args.code.now) (tables_of c.args.code.now) c.args.instruction (rows.PushClass c.in-PushClass.class) _ _ _ c.in-PushClass.is c.push_class.ensures.ok
 
 pub returns-in-PushLong-clause-ok : goal.returns-in-PushLong-clause-ok
 returns-in-PushLong-clause-ok c = of_row (plain_of c.args.code.now) (tables_of c.args.code.now) c.args.instruction (rows.PushLong c.in-PushLong.place) _ _ _ c.in-PushLong.is (c.push_long.ensures (plain_of c.args.code.now))
-
-pub returns-in-Load-clause-ok : goal.returns-in-Load-clause-ok
-returns-in-Load-clause-ok c = of_row (plain_of c.args.code.now) (tables_of c.args.code.now) c.args.instruction (rows.Load c.in-Load.place) _ _ _ c.in-Load.is (c.load.ensures (plain_of c.args.code.now))
-
-pub returns-in-Store-clause-ok : goal.returns-in-Store-clause-ok
-returns-in-Store-clause-ok c = of_row (plain_of c.args.code.now) (tables_of c.args.code.now) c.args.instruction (rows.Store c.in-Store.place) _ _ _ c.in-Store.is (c.store.ensures (plain_of c.args.code.now))
-
-pub returns-in-Pop-clause-ok : goal.returns-in-Pop-clause-ok
-returns-in-Pop-clause-ok c = of_row (plain_of c.args.code.now) (tables_of c.args.code.now) c.args.instruction rows.Pop _ _ _ c.in-Pop.is (c.pop.ensures (plain_of c.args.code.now))
-
-pub returns-in-Dup-clause-ok : goal.returns-in-Dup-clause-ok
-returns-in-Dup-clause-ok c = of_row (plain_of c.args.code.now) (tables_of c.args.code.now) c.args.instruction rows.Dup _ _ _ c.in-Dup.is (c.dup.ensures (plain_of c.args.code.now))
-
-pub returns-in-Dup2-clause-ok : goal.returns-in-Dup2-clause-ok
-returns-in-Dup2-clause-ok c = of_row (plain_of c.args.code.now) (tables_of c.args.code.now) c.args.instruction rows.Dup2 _ _ _ c.in-Dup2.is (c.dup2.ensures (plain_of c.args.code.now))
-
-pub returns-in-DupX1-clause-ok : goal.returns-in-DupX1-clause-ok
-returns-in-DupX1-clause-ok c = of_row (plain_of c.args.code.now) (tables_of c.args.code.now) c.args.instruction rows.DupX1 _ _ _ c.in-DupX1.is (c.dup_x1.ensures (plain_of c.args.code.now))
-
-pub returns-in-DupX2-clause-ok : goal.returns-in-DupX2-clause-ok
-returns-in-DupX2-clause-ok c = of_row (plain_of c.args.code.now) (tables_of c.args.code.now) c.args.instruction rows.DupX2 _ _ _ c.in-DupX2.is (c.dup_x2.ensures (plain_of c.args.code.now))
-
-pub returns-in-OneOperand-clause-ok : goal.returns-in-OneOperand-clause-ok
-returns-in-OneOperand-clause-ok c = of_row (plain_of c.args.code.now) (tables_of c.args.code.now) c.args.instruction (rows.OneOperand c.in-OneOperand.operator) _ _ _ c.in-OneOperand.is (c.one_operand.ensures (plain_of c.args.code.now))
-
-pub returns-in-TwoOperands-clause-ok : goal.returns-in-TwoOperands-clause-ok
-returns-in-TwoOperands-clause-ok c = of_row (plain_of c.args.code.now) (tables_of c.args.code.now) c.args.instruction (rows.TwoOperands c.in-TwoOperands.operator) _ _ _ c.in-TwoOperands.is (c.two_operands.ensures (plain_of c.args.code.now))
-
-pub returns-in-ConvertTo-clause-ok : goal.returns-in-ConvertTo-clause-ok
-returns-in-ConvertTo-clause-ok c = of_row (plain_of c.args.code.now) (tables_of c.args.code.now) c.args.instruction (rows.ConvertTo c.in-ConvertTo.width) _ _ _ c.in-ConvertTo.is (c.convert.ensures (plain_of c.args.code.now))
-
-pub returns-in-Jump-clause-ok : goal.returns-in-Jump-clause-ok
-returns-in-Jump-clause-ok c = of_row (plain_of c.args.code.now) (tables_of c.args.code.now) c.args.instruction (rows.Jump c.in-Jump.to) _ _ _ c.in-Jump.is (c.jump.ensures (plain_of c.args.code.now))
-
-pub returns-in-JumpIf-clause-ok : goal.returns-in-JumpIf-clause-ok
-returns-in-JumpIf-clause-ok c = of_row (plain_of c.args.code.now) (tables_of c.args.code.now) c.args.instruction (rows.JumpIf c.in-JumpIf.to) _ _ _ c.in-JumpIf.is (c.jump_if.ensures (plain_of c.args.code.now))
-
-pub returns-in-JumpNot-clause-ok : goal.returns-in-JumpNot-clause-ok
-returns-in-JumpNot-clause-ok c = of_row (plain_of c.args.code.now) (tables_of c.args.code.now) c.args.instruction (rows.JumpNot c.in-JumpNot.to) _ _ _ c.in-JumpNot.is (c.jump_not.ensures (plain_of c.args.code.now))
 
 pub returns-in-BackTo-clause-ok : goal.returns-in-BackTo-clause-ok
 returns-in-BackTo-clause-ok c = of_row (plain_of c.args.code.now) (tables_of c.args.code.now) c.args.instruction (rows.BackTo c.in-BackTo.to) _ _ _ c.in-BackTo.is (c.back_to.ensures (plain_of c.args.code.now))

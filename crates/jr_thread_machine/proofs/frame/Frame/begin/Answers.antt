@@ -1,14 +1,13 @@
-use Rattle.std.proofs.Common.{◌≡◌, ◌+◌, ◌++◌, [], map, length, take, drop, reverse, ap, sym, ◌∙◌}
+use Rattle.std.proofs.Common.{◌+◌, ◌++◌, [], map, length, take, drop, reverse, ap, sym, ◌∙◌}
 use Rattle.std.proofs.lemmas.List.{length-map}
-use Rattle.jr_base.specs.Content.{Content, Holds, unset}
+use Rattle.jr_base.specs.Content.{Holds, unset}
 use Rattle.jr_code.specs.Checked.{this_kind}
 use Rattle.jr_code.specs.Machine.{stack_frame, this_local, value_of_content}
-use Rattle.jr_thread_machine.specs.Frames.{frame_of}
 use Rattle.jr_thread_machine.proofs.Waiting.{begun, this_counts}
 use Rattle.jr_thread_machine.proofs.frame.Frame.begin.Goals as goal
 
-pub returns : goal.returns
-returns c =
+pub returns-clause-begun : goal.returns-clause-begun
+returns-clause-begun c =
     let m = c.args.callee.now in
     let operands = c.args.caller.now.items in
     let passed = c.last-passed.result.now in
@@ -17,8 +16,8 @@ returns c =
     let formals = c.len-formals.ensures in
     let last = c.last-passed.ensures ∙ ap (λ n. reverse (take n operands)) formals in
     begun c.args.method c.args.this m operands locals first (length passed) (first + c.len-formals.result)
-    (stack_frame c.args.method c.args.this 0 c.clear.new.self.items locals)
-    (ap (λ s. stack_frame c.args.method c.args.this 0 s locals) c.clear.ensures)
+    (stack_frame c.args.method c.args.this 0 c.reserve.new.self.items locals)
+    (ap (λ s. stack_frame c.args.method c.args.this 0 s locals) (c.reserve.ensures.items ∙ c.clear.ensures))
     c.in_ok-first.ensures.count
     (ap length last ∙ sym (length-map (reverse (take (length m.formals.items) operands)) value_of_content))
     (ap (λ k. k + c.len-formals.result) (c.in_ok-first.ensures.count ∙ this_counts m.is_static c.args.this) ∙ ap (λ k. length (this_kind m.is_static) + k) formals)

@@ -1,8 +1,8 @@
-use Rattle.std.proofs.Common.{◌+◌, List, refl, sym, subst}
+use Rattle.std.proofs.Common.{◌+◌, refl, sym, subst}
 use Rattle.jr_base.specs.Deed as deeds
 use Rattle.jr_base.specs.declared.action.Action.TheVariants as actions
 use Rattle.jr_base.specs.declared.finish.Fault.TheVariants as faults
-use Rattle.jr_code.specs.Machine.{StackFrame, State, Makes, on, stack_frame}
+use Rattle.jr_code.specs.Machine.{State, Makes, on, stack_frame}
 use Rattle.jr_code.specs.Views.{plain_of}
 use Rattle.jr_thread_machine.specs.declared.flow.Then.TheVariants as thens
 use Rattle.jr_thread_machine.specs.declared.stage.Stage.TheVariants as stages

@@ -10,11 +10,11 @@ use Rattle.jr_thread_machine.proofs.machine.Machine.new.Goals as goal
 
 pub start-requires : goal.start-requires
 start-requires c =
-    start_in (program_of c.args.program.now) c.well_formed-2.ensures c.args.start c.requires (plain_of c.code_in.result.now) c.code_in.ensures
+    start_in (program_of c.args.program.now) c.well_formed-2.ensures c.args.start c.requires (plain_of c.code.result.now) c.code.ensures
 
 pub returns : goal.returns
 returns c =
     let program = program_of c.args.program.now in
-    let code = plain_of c.code_in.result.now in
+    let code = plain_of c.code.result.now in
     mapped_ok (λ m. HasStarted code c.args.start (held_of m)) (λ m. StandsFor program c.args.start [] m) c.start.result
-    (λ m h. started program c.args.start c.requires code c.code_in.ensures m h) c.start.ensures
+    (λ m h. started program c.args.start c.requires code c.code.ensures m h) c.start.ensures

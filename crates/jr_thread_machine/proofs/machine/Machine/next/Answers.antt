@@ -13,11 +13,11 @@ use Rattle.jr_thread_machine.proofs.machine.Machine.next.Goals as goal
 
 pub ready-requires-clause-right : goal.ready-requires-clause-right
 ready-requires-clause-right c =
-    right_in (program_of c.args.program.now) c.well_formed-2.ensures (plain_of c.code_in.result.now) c.code_in.ensures
+    right_in (program_of c.args.program.now) c.well_formed-2.ensures (plain_of c.code.result.now) c.code.ensures
 
 pub ready-requires-clause-fits : goal.ready-requires-clause-fits
 ready-requires-clause-fits c =
-    held_in (program_of c.args.program.now) c.args.self.now c.requires (plain_of c.code_in.result.now) c.code_in.ensures
+    held_in (program_of c.args.program.now) c.args.self.now c.requires (plain_of c.code.result.now) c.code.ensures
 
 pub returns-clause-next : goal.returns-clause-next
 returns-clause-next c =
@@ -27,11 +27,11 @@ returns-clause-next c =
     mapped_ok (λ a. Says a (held_of now))
     (λ a. (start : Option Body) (replies : List Reply) → StandsFor program start replies old → next program start replies ≡ next_of a) c.action.result
     (λ a says start replies stands. answers program c.well_formed-2.ensures start replies now
-    (turned program start replies old now stands (plain_of c.code_in.result.now) c.code_in.ensures c.ready.ensures.turned) a says) c.action.ensures
+    (turned program start replies old now stands (plain_of c.code.result.now) c.code.ensures c.ready.ensures.turned) a says) c.action.ensures
 
 pub returns-clause-stands : goal.returns-clause-stands
 returns-clause-stands c = λ start replies stands.
-    turned (program_of c.args.program.now) start replies c.args.self.now c.ready.new.self stands (plain_of c.code_in.result.now) c.code_in.ensures
+    turned (program_of c.args.program.now) start replies c.args.self.now c.ready.new.self stands (plain_of c.code.result.now) c.code.ensures
     c.ready.ensures.turned
 
 pub returns-clause-same : goal.returns-clause-same

@@ -1,18 +1,8 @@
 use Rattle.jr_code.specs.Views.{plain_of}
-use Rattle.jr_thread_machine.specs.declared.stage.Stage.TheVariants as stages
-use Rattle.jr_thread_machine.specs.Frames.{frame_of}
-use Rattle.jr_thread_machine.specs.Stages.{held, stage_of_ran}
-use Rattle.jr_thread_machine.proofs.Turning.{at_stage, same_turn}
-use Rattle.jr_thread_machine.proofs.Turns.{comes_there}
+use Rattle.jr_thread_machine.specs.Machines.{held_of}
+use Rattle.jr_thread_machine.proofs.Turns.{turned_twice}
 use Rattle.jr_thread_machine.proofs.machine.Machine.run.Goals as goal
 
-pub returns-in-Runs-clause-turned : goal.returns-in-Runs-clause-turned
-returns-in-Runs-clause-turned c =
-    let code = plain_of c.args.code.now in
-    let f = frame_of c.args.self.now.top in
-    let g = frame_of c.run.new.self in
-    let below = c.args.self.now.callers in
-    let ran = c.in_ok-ran.ran in
-    at_stage code c.args.self.now.stage stages.Runs f below _ c.in-Runs.is
-    (λ fits. same_turn code (held stages.Runs f below) (held (stage_of_ran ran) g below) _ c.come_to.ensures.stage
-    (comes_there code ran f g below fits.below c.in_ok-ran.ensures.ok)) c.requires.fits
+pub returns-else-goes_back-clause-turned : goal.returns-else-goes_back-clause-turned
+returns-else-goes_back-clause-turned c =
+    turned_twice (plain_of c.args.code.now) (held_of c.args.self.now) (held_of c.goes_back.new.self) (held_of c.run_on.new.self) c.goes_back.ensures.turned c.run_on.ensures.turned

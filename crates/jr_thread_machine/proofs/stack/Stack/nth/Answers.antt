@@ -1,4 +1,4 @@
-use Rattle.std.proofs.Common.{◌≡◌, ◌-◌, length, ap, sym, ◌∙◌, take}
+use Rattle.std.proofs.Common.{◌-◌, length, ap, ◌∙◌, take}
 use Rattle.jr_base.specs.Content.{Content}
 use Rattle.jr_base.specs.Spare.{Spare}
 use Rattle.jr_code.specs.Machine.{top_content}

@@ -1,0 +1,6 @@
+mod Alone
+mod Chains
+mod Lists
+mod Moments
+mod Plain
+mod SmallUnit

@@ -1,0 +1,4 @@
+pub mod Heap
+pub mod Reached
+pub mod Stacks
+pub mod Walk

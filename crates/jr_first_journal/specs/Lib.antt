@@ -1,0 +1,4 @@
+pub mod Along
+pub mod Event
+pub mod FirstForm
+pub mod Programs

@@ -1,0 +1,4 @@
+pub mod Fits
+pub mod Passing
+pub mod Refusals
+pub mod Report

@@ -1,0 +1,13 @@
+use Rattle.std.proofs.Common.{◌≡◌, drop}
+use Rattle.jr_program.specs.UnitViews.{program_of}
+use Rattle.jr_report.specs.Report.{out_lines, bytes_of_lines}
+use Rattle.jr_report.proofs.Pieces.{Leads}
+use Rattle.jr_report.proofs.prints.write_out_lines.Given as goal
+
+-- the lines of the entries to come are left to write
+abbrev pub invariant-loop-at : goal.invariant-loop-at
+invariant-loop-at g l = record {
+  leads : Leads (g.K.Sink.written l.initial.sink) (g.K.Sink.written l.sink)
+      (bytes_of_lines (out_lines (program_of l.unit) (drop l.at l.journal.entries))) (bytes_of_lines (out_lines (program_of l.unit) l.journal.entries));
+  faults : g.K.Sink.faults l.sink ≡ g.K.Sink.faults l.initial.sink;
+}

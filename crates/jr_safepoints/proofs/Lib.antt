@@ -1,0 +1,10 @@
+pub mod Assembling
+pub mod Fielding
+pub mod Joining
+pub mod Keeping
+pub mod Labels
+pub mod Leaving
+pub mod Moving
+pub mod Noting
+pub mod Slotting
+pub mod Wholes

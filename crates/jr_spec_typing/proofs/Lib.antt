@@ -1,0 +1,11 @@
+pub mod Adding
+pub mod Asserting
+pub mod Conjuncts
+pub mod Environing
+pub mod Members
+pub mod Modes
+pub mod Noting
+pub mod Placing
+pub mod Quantifiers
+pub mod Rules
+pub mod Suffixes
