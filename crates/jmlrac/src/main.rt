@@ -5,15 +5,14 @@
 ghost use Rattle.std.specs.Prelude.{◌≡◌, ◌≢◌, [], IfSome, IsSome, IsSomeAnd};
 ghost use Rattle.jr_io.specs.Faults.{Rose};
 ghost use Rattle.jr_io.specs.StdSink.{held_back};
-ghost use Rattle.jr_first_journal.specs.Programs.{program_of};
-ghost use Rattle.jr_first_journal.specs.FirstForm.Right.{IsRightRecord};
-ghost use Rattle.jr_cli.specs.Command.{line};
-ghost use Rattle.jr_cli.specs.Causes.{budget_of};
+ghost use Rattle.jr_command.specs.Command.{line};
+ghost use Rattle.jr_cli.specs.Commands.{IsRun};
 ghost use Rattle.jr_cli.specs.Ends.{IsStatus};
 ghost use Rattle.jr_cli.specs.Texts.{run_status};
 
 use jr_base::Memory;
-use jr_cli::{Ended, Words, jmlrac_quiet};
+use jr_cli::{Ended, jmlrac_quiet};
+use jr_command::Words;
 use jr_io::{Piece, Sink, Source, StdSink, StdSource};
 use std::alloc::Global;
 use std::env;
@@ -54,9 +53,9 @@ fn run<S: Source, W: Write + Drop>(
     sink: &mut StdSink<W>,
 ) -> Ended
     // A run that is returned is right, and the status is its own, as that of a refusal is, unless a write failed.
-    ensures headline { IfSome result.run (λ run. IsSomeAnd (line words.now) (λ command. IsRightRecord (program_of run.opening.unit) (budget_of command) run)) }
+    ensures headline { IfSome result.run (λ run. IsSomeAnd (line words.now) (λ command. IsRun command run)) }
     ensures status_of_run { IfSome result.run (λ run. IsStatus result.status (run_status run.finish run.journal.entries)) }
-    ensures ran { result.status ≢ 2 → result.status ≢ 3 → result.status ≢ 4 → result.status ≢ 5 → result.status ≢ 7 → IsSome result.run }
+    ensures ran { result.status ≢ 0 → result.status ≢ 2 → result.status ≢ 3 → result.status ≢ 4 → result.status ≢ 5 → result.status ≢ 7 → IsSome result.run }
     ensures refused { IfSome result.refusal (λ refusal. IsStatus result.status 3) }
     // 5 where a write failed, the last one too. Else nothing is held back.
     ensures write_fault { result.status ≡ 5 → Rose (⟦<StdSink<W> as Sink>⟧.faults sink.old) (⟦<StdSink<W> as Sink>⟧.faults sink.new) }

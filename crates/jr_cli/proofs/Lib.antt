@@ -1,5 +1,6 @@
 pub mod Endings
-pub mod Lines
 pub mod Refusing
 pub mod SourceAnswers
+pub mod Statuses
 pub mod Telling
+pub mod Working

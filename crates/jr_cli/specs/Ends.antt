@@ -3,12 +3,15 @@ use Rattle.std.specs.Prelude.{◌≡◌, ◌==◌, ◌⊎◌, ℕ, cond, List, [
 use Rattle.jr_io.specs.declared.sink.Piece.TheVariants.{Whole, WriteFault}
 use Rattle.jr_io.specs.Writes.{WritesPiece}
 use Rattle.jr_base.specs.declared.refusal.Refusal.{Refusal}
-use Rattle.jr_first_journal.specs.Programs.{Program, program_of}
-use Rattle.jr_cli.specs.declared.words.Command.{Command}
+use Rattle.jr_program.specs.Programs.{Program}
+use Rattle.jr_program.specs.UnitViews.{program_of}
+use Rattle.jr_command.specs.declared.command.Command.{Command}
+use Rattle.jr_command.specs.declared.command.Command.TheVariants.{RunSerial, Check, Clauses}
+use Rattle.jr_report.specs.Refusals.{refusal_line}
 use Rattle.jr_cli.specs.declared.outcome.Outcome.{Outcome}
 use Rattle.jr_cli.specs.declared.ended.Ended.{Ended}
-use Rattle.jr_cli.specs.Causes.{Reading, Refuses, HasCause, RefusesTooLong, CountsReading}
-use Rattle.jr_first_report.specs.Refusals.{refusal_line}
+use Rattle.jr_cli.specs.Causes.{Reading, Refuses, IsOf, HasCause, RefusesTooLong, CountsReading}
+use Rattle.jr_cli.specs.Commands.{listing_of}
 use Rattle.jr_cli.specs.Texts.{Tells}
 
 -- a count before and after a call
@@ -36,18 +39,41 @@ IsStatus status expected = (status ≡ expected) ⊎ (status ≡ 5)
 abbrev pub IsWritten : Writing → ℕ → List ℕ → Type 0
 IsWritten writing status text = WritesPiece writing.before writing.now (cond (status == 5) WriteFault Whole) text
 
--- there was no memory for a run to begin
+-- nothing was run, and no source refused
+pub record IsPlain (ended : Ended) (expected : ℕ) : Type 0 where
+  pub status : IsStatus ended.status expected
+  pub no_run : ended.run ≡ None
+  pub no_refusal : ended.refusal ≡ None
+
+-- there was no memory for the command's work to begin
 abbrev pub HadNoMemory : Ended → Type 0
-HadNoMemory ended = (ended.run ≡ None) × (ended.refusal ≡ None) × IsStatus ended.status 7
+HadNoMemory ended = IsPlain ended 7
 
 -- the run is one of that program
 abbrev pub Runs : Ended → Program → Type 0
 Runs ended program = IsSomeAnd ended.run (λ run. program_of run.opening.unit ≡ program)
 
+-- what the command tells of that program was written
+pub record Lists (command : Command) (program : Program) (writing : Writing) (ended : Ended) : Type 0 where
+  pub plain : IsPlain ended 0
+  pub written : IsSomeAnd (listing_of command program) (IsWritten writing ended.status)
+
+-- the command did its work with that program
+abbrev pub Does : Command → Program → Writing → Ended → Type 0
+Does (RunSerial seed budget) program writing ended = Runs ended program
+Does Check program writing ended = Lists Check program writing ended
+Does Clauses program writing ended = Lists Clauses program writing ended
+
 -- The source is refused for a cause, no program is run, and what was written is the refusal's line.
-pub record IsRefusal (reading : Reading) (writing : Writing) (ended : Ended) (refusal : Refusal) : Type 0 where
+pub record IsRefusal (command : Command) (reading : Reading) (writing : Writing) (ended : Ended) (refusal : Refusal) : Type 0 where
   pub source : List ℕ
-  pub cause : Refuses reading source refusal
+  pub cause : Refuses command reading source refusal
   pub status : IsStatus ended.status 3
   pub no_run : ended.run ≡ None
   pub written : IsWritten writing ended.status (refusal_line source refusal ++ 10 ∷ [])
+
+-- the source was read to its end, and the command told of the program that it spells
+pub record IsListing (command : Command) (reading : Reading) (writing : Writing) (ended : Ended) : Type 0 where
+  pub program : Program
+  pub source : IsOf reading program
+  pub lists : Lists command program writing ended

@@ -1,5 +1,6 @@
 pub mod Causes
-pub mod Command
+pub mod Commands
 pub mod Ends
 pub mod Sources
 pub mod Texts
+pub mod Works

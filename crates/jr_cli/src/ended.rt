@@ -1,15 +1,14 @@
 //! How a call ends, and what it writes.
 
-ghost use Rattle.std.specs.Prelude.{◌≡◌, ◌≤◌};
+ghost use Rattle.std.specs.Prelude.{◌≡◌, ◌≤◌, None};
 ghost use Rattle.jr_io.specs.Writes.{WritesPiece, CountsPieceFault};
-ghost use Rattle.jr_first_journal.specs.FirstForm.Right.{IsRightRecord};
-ghost use Rattle.jr_cli.specs.Texts.{IsTellable, text_of, status_of, run_status, Tells};
+ghost use Rattle.jr_cli.specs.Texts.{IsTellable, IsTellableWork, text_of, text_of_work, status_of, status_of_work, run_status, run_of_work, Tells};
 
-use crate::outcome::Outcome;
+use crate::outcome::{Outcome, Work};
 use jr_base::{Finish, Refusal};
-use jr_first_journal::RunRecord;
-use jr_first_report::{count_all, write_refusal, write_report};
 use jr_io::{Piece, Sink, write_piece};
+use jr_journal::RunRecord;
+use jr_report::{count_all, write_check, write_clauses, write_refusal, write_report};
 
 /// How a call ended.
 #[derive(Drop)]
@@ -38,7 +37,10 @@ enum Status {
 }
 
 /// What is written where the words are no command.
-const USAGE: &str = "usage: jmlrac run --serial 0 < SOURCE\n";
+const USAGE: &str = "usage: jmlrac run --serial SEED [--budget N] < SOURCE
+       jmlrac check < SOURCE
+       jmlrac clauses < SOURCE
+";
 
 /// Writes what came of a call, and says how it ended. A write that failed goes before all else.
 pub fn tell<K: Sink>(outcome: Outcome, sink: &mut K) -> Ended
@@ -55,16 +57,33 @@ pub fn tell<K: Sink>(outcome: Outcome, sink: &mut K) -> Ended
             refusal: Some(refusal),
             run: None,
         },
-        Outcome::Ran(run) => Ended {
+        Outcome::Done(work) => done(work, status),
+        Outcome::Usage | Outcome::ReadFault | Outcome::OutOfMemory => plain(status),
+    }
+}
+
+// The end of a command's work, with that status.
+fn done(work: Work, status: u8) -> Ended
+    ensures { result ≡ record { status = status; refusal = None; run = run_of_work work } }
+{
+    match work {
+        Work::Ran(run) => Ended {
             status,
             refusal: None,
             run: Some(run),
         },
-        Outcome::Usage | Outcome::ReadFault | Outcome::OutOfMemory => Ended {
-            status,
-            refusal: None,
-            run: None,
-        },
+        Work::Checked(_unit) | Work::Listed(_unit) => plain(status),
+    }
+}
+
+// An end with that status, without a run and a refusal.
+fn plain(status: u8) -> Ended
+    ensures { result ≡ record { status = status; refusal = None; run = None } }
+{
+    Ended {
+        status,
+        refusal: None,
+        run: None,
     }
 }
 
@@ -80,7 +99,21 @@ fn write_outcome<K: Sink>(outcome: &Outcome, sink: &mut K) -> Piece
         Outcome::ReadFault => write_piece(sink, b"read fault\n"),
         Outcome::Refused(refusal, source) => write_refusal(source.as_slice(), *refusal, sink),
         Outcome::OutOfMemory => write_piece(sink, b"out of memory\n"),
-        Outcome::Ran(run) => write_report(run, sink),
+        Outcome::Done(work) => write_work(work, sink),
+    }
+}
+
+// Writes what is told of a command's work.
+fn write_work<K: Sink>(work: &Work, sink: &mut K) -> Piece
+    requires { IsTellableWork work.now }
+    ensures bytes { WritesPiece (K.written sink.old) (K.written sink.new) result (text_of_work work.now) }
+    ensures never_falls { K.faults sink.old ≤ K.faults sink.new }
+    ensures faults { CountsPieceFault (K.faults sink.old) (K.faults sink.new) result }
+{
+    match work {
+        Work::Checked(unit) => write_check(unit, sink),
+        Work::Listed(unit) => write_clauses(unit, sink),
+        Work::Ran(run) => write_report(run, sink),
     }
 }
 
@@ -93,9 +126,19 @@ fn status_of_outcome(outcome: &Outcome) -> u8
         Outcome::ReadFault => Status::ReadFault,
         Outcome::Refused(..) => Status::Refused,
         Outcome::OutOfMemory => Status::Memory,
-        Outcome::Ran(run) => return status_of_run(run),
+        Outcome::Done(work) => return status_of_work(work),
     };
     status as u8
+}
+
+// The status of a command's work.
+fn status_of_work(work: &Work) -> u8
+    ensures { result ≡ status_of_work work.now }
+{
+    match work {
+        Work::Checked(_) | Work::Listed(_) => Status::Clean as u8,
+        Work::Ran(run) => status_of_run(run),
+    }
 }
 
 // The status of a run: its finish, and where it finished, whether all went well.

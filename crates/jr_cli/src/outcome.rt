@@ -1,16 +1,21 @@
 //! From the words and the source to what came of them.
 
-ghost use Rattle.std.specs.Prelude.{◌≡◌, Some, IsNone};
-ghost use Rattle.jr_cli.specs.Command.{line};
+ghost use Rattle.std.specs.Prelude.{◌≡◌, ◌≤◌, Some, IsNone, length};
+ghost use Rattle.jr_program.specs.UnitViews.{program_of};
+ghost use Rattle.jr_command.specs.Command.{line};
 ghost use Rattle.jr_cli.specs.Causes.{HasCause, RefusesTooLong, CountsReading};
-ghost use Rattle.jr_cli.specs.Texts.{IsLaidOut};
+ghost use Rattle.jr_cli.specs.Works.{WorksOn, RunsOrRefuses};
 
 use crate::source::program_of_source;
-use crate::words::{Command, Words};
 use jr_base::{Fail, Refusal};
-use jr_first_drive::drive;
-use jr_first_journal::RunRecord;
+use jr_built::is_built;
+use jr_command::{Command, Words};
+use jr_drive::drive_serial;
 use jr_io::{ReadFail, Source, read_all};
+use jr_journal::RunRecord;
+use jr_lowering::lower;
+use jr_meaning::history_laws::{serial_prefixes_are_right, serial_runs_are_right};
+use jr_program::TypedUnit;
 use std::alloc::Global;
 
 /// The most bytes that a source may have.
@@ -25,9 +30,20 @@ pub enum Outcome {
     ReadFault,
     /// The source is refused, and these are its bytes; none where it is too long.
     Refused(Refusal, Vec<u8>),
-    /// There was no memory for the run to begin.
+    /// There was no memory for the command's work to begin.
     OutOfMemory,
-    /// The program ran.
+    /// The command did its work on the program that the source spells.
+    Done(Work),
+}
+
+/// What a command makes of a program.
+#[derive(Drop)]
+pub enum Work {
+    /// How much the program has is to be told.
+    Checked(TypedUnit),
+    /// Its clauses and notes are to be listed.
+    Listed(TypedUnit),
+    /// It ran.
     Ran(RunRecord),
 }
 
@@ -40,17 +56,16 @@ pub fn outcome_of<S: Source>(alloc: Global, words: &Words, source: &mut S) -> Ou
         (record { left = S.left source.old; taken_before = S.taken source.old; taken = S.taken source.new; ended = S.ended source.new })
         result }
     ensures faults { CountsReading (S.faults source.old) (S.faults source.new) result }
-    ensures layout { IsLaidOut result }
     ensures unread { IsNone (line words.now) → source.new ≡ source.old }
 {
     match words.command() {
+        Some(command) => read_and_work(alloc, command, source),
         None => Outcome::Usage,
-        Some(command) => run_source(alloc, source, command),
     }
 }
 
-// Runs a source.
-fn run_source<S: Source>(alloc: Global, source: &mut S, command: Command) -> Outcome
+// Does a command's work on a source, which is read to its end first.
+fn read_and_work<S: Source>(alloc: Global, command: Command, source: &mut S) -> Outcome
     ensures cause { HasCause (Some command)
         (record { left = S.left source.old; taken_before = S.taken source.old; taken = S.taken source.new; ended = S.ended source.new })
         result }
@@ -58,18 +73,42 @@ fn run_source<S: Source>(alloc: Global, source: &mut S, command: Command) -> Out
         (record { left = S.left source.old; taken_before = S.taken source.old; taken = S.taken source.new; ended = S.ended source.new })
         result }
     ensures faults { CountsReading (S.faults source.old) (S.faults source.new) result }
-    ensures layout { IsLaidOut result }
 {
-    let Command::RunSerial { seed: _, budget } = command;
     let bytes = match read_all(alloc, source, SOURCE_LIMIT) {
         Ok(bytes) => bytes,
         Err(ReadFail::ReadFault) => return Outcome::ReadFault,
         Err(ReadFail::TooLong) => return Outcome::Refused(Refusal::TooLong, Vec::new(alloc)),
         Err(ReadFail::Memory) => return Outcome::OutOfMemory,
     };
-    match program_of_source(alloc, bytes.as_slice()) {
-        Ok(unit) => Outcome::Ran(drive(alloc, unit, budget)),
+    match work_on(alloc, command, bytes.as_slice()) {
+        Ok(work) => Outcome::Done(work),
         Err(Fail::Refused(refusal)) => Outcome::Refused(refusal, bytes),
         Err(Fail::Memory) => Outcome::OutOfMemory,
     }
+}
+
+// Does a command's work on the bytes of a source.
+fn work_on(alloc: Global, command: Command, bytes: &[u8]) -> Result<Work, Fail>
+    requires { length bytes.now ≤ 1048576 }
+    ensures { WorksOn command bytes.now result }
+{
+    let unit = program_of_source(alloc, bytes)?;
+    match command {
+        Command::RunSerial { seed: _, budget } => Ok(Work::Ran(run(alloc, unit, budget)?)),
+        Command::Check => Ok(Work::Checked(unit)),
+        Command::Clauses => Ok(Work::Listed(unit)),
+    }
+}
+
+// Runs a program, if it is one that can be run yet. Such programs have one thread, so a run is that of every seed.
+fn run(alloc: Global, unit: TypedUnit, budget: u32) -> Result<RunRecord, Fail>
+    ensures { RunsOrRefuses (program_of unit) budget result }
+{
+    if !is_built(&unit) {
+        return Err(Fail::Refused(Refusal::NotBuilt));
+    }
+    serial_runs_are_right();
+    serial_prefixes_are_right();
+    let program = lower(alloc, unit)?;
+    Ok(drive_serial(alloc, program, budget))
 }

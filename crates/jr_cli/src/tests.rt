@@ -2,8 +2,9 @@
 
 use super::*;
 use jr_base::{Action, Finish};
-use jr_first_journal::{Entry, RunRecord};
+use jr_command::Words;
 use jr_io::{MemSink, MemSource};
+use jr_journal::{Entry, RunRecord};
 use std::alloc::Global;
 use std::process::Abort;
 use std::test::Fail;
@@ -29,7 +30,10 @@ const TWICE_REPORT: &str =
 
 const SERIAL: [&str; 3] = ["run", "--serial", "0"];
 
-const USAGE: &str = "usage: jmlrac run --serial 0 < SOURCE\n";
+const USAGE: &str = "usage: jmlrac run --serial SEED [--budget N] < SOURCE
+       jmlrac check < SOURCE
+       jmlrac clauses < SOURCE
+";
 
 // A call over memory, whose read and write of those numbers fail, and what it wrote.
 fn call(
@@ -116,8 +120,8 @@ fn runs_methods_over_fields(rt: HostRuntime) -> Result<(), Fail> {
         (
             "class A { static int n; static void set(int x) { n = x; } static int get() { return n; }
              public static void main(String[] args) { set(7); System.out.println(get() - -1); } }",
-            3,
-            "refused NotBuilt\n",
+            0,
+            "out 1: 8\nfinish Finished\nsteps 10, guests 1, verdicts 0, violations 0, uncaught 0\n",
         ),
         (
             "class A { static int n = -3; static void set(int x) { n = x; } static int get() { return n; }
@@ -146,19 +150,6 @@ fn runs_methods_over_fields(rt: HostRuntime) -> Result<(), Fail> {
 #[test]
 fn judges_each_clause_at_each_call(rt: HostRuntime) -> Result<(), Fail> {
     for (source, status, written) in [
-        (
-            "class A {
-  static int n;
-  //@ requires n == 1; requires n != 1;
-  //@ requires n < x; requires n <= x; requires n > x; requires n >= x;
-  //@ requires -1 < n;
-  static void f(int x) { }
-  public static void main(String[] args) { f(0); }
-}
-",
-            3,
-            "refused NotBuilt\n",
-        ),
         (
             "class A {
   static int n;
@@ -263,98 +254,6 @@ fn evaluates_from_left_to_right(rt: HostRuntime) -> Result<(), Fail> {
     Ok(())
 }
 
-#[test]
-fn refuses_other_sources(rt: HostRuntime) -> Result<(), Fail> {
-    let empty: &[u8] = b"";
-    for (source, written) in [
-        (empty, "refused NoMain\n"),
-        (b" \t\n\r\x0c", "refused NoMain\n"),
-        (b"class A { }", "refused NoMain\n"),
-        (b"class A { int x; }", "refused NotBuilt\n"),
-        (b"/* x", "refused OpenComment at 1:1\n"),
-        (b"\xff", "refused BadUtf8 at 1:1\n"),
-        (
-            b"class A { int x = 3000000000; }",
-            "refused BigLiteral at 1:19\n",
-        ),
-        (b"class A { int x = 1a; }", "refused BadToken at 1:19\n"),
-        (b"class A {\n  #\n}", "refused BadToken at 2:3\n"),
-        (
-            b"class A {\n  static void f(int x) { x = 1 < 2 < 3; }\n}",
-            "refused Syntax at 2:36\n",
-        ),
-        (
-            b"class A { static void f() { switch (1) { } } }",
-            "refused NotInProfile switch at 1:29\n",
-        ),
-        (
-            b"class A { int x = 2147483648; }",
-            "refused BigLiteral at 1:19\n",
-        ),
-        (
-            b"class A { static int x = (1); }",
-            "refused Syntax at 1:26\n",
-        ),
-        (
-            b"import a.b; class A { void f() { for (;;) ; } }",
-            "refused NotBuilt\n",
-        ),
-        (
-            b"class A { static long n; public static void main(String[] args) { } }",
-            "refused NotBuilt\n",
-        ),
-        (
-            b"class A { static int n = 1L; public static void main(String[] args) { } }",
-            "refused NotBuilt\n",
-        ),
-        (
-            b"class A { static long[] n; public static void main(String[] args) { } }",
-            "refused NotBuilt\n",
-        ),
-        (
-            b"class A { static void f(long x) { } public static void main(String[] args) { } }",
-            "refused NotBuilt\n",
-        ),
-        (
-            b"class A { static long f() { return 1; } public static void main(String[] args) { } }",
-            "refused NotBuilt\n",
-        ),
-        (
-            b"class A { static void f() { long x = 1; } public static void main(String[] args) { } }",
-            "refused NotBuilt\n",
-        ),
-        (
-            b"class A { public static void main(String[] args) { System.out.println(1l); } }",
-            "refused NotBuilt\n",
-        ),
-        (
-            b"class A { /*@ requires 1L > 0; @*/ static void f() { } public static void main(String[] args) { } }",
-            "refused NotBuilt\n",
-        ),
-        (
-            b"/*@ spec_safe_math @*/ class A { public static void main(String[] args) { } }",
-            "refused NotBuilt\n",
-        ),
-        (
-            b"class A { /*@ spec_java_math @*/ static void f() { } public static void main(String[] args) { } }",
-            "refused NotBuilt\n",
-        ),
-        (
-            b"class A { static int n = 9223372036854775809L; }",
-            "refused BigLiteral at 1:26\n",
-        ),
-        (
-            b"class A { static int n = 9223372036854775808L; }",
-            "refused BigLiteral at 1:26\n",
-        ),
-        (b"class A { int x = 1LL; }", "refused BadToken at 1:19\n"),
-    ] {
-        let ended = check(&rt, &SERIAL, source, (0, 0), 3, written)?;
-        assert!(rt; ended.refusal.is_some() && ended.run.is_none());
-    }
-    Ok(())
-}
-
 // A front, so many opening signs, a middle, as many closing ones, and a back.
 fn nested(
     alloc: Global,
@@ -383,23 +282,33 @@ fn refuses_deep_sources(rt: HostRuntime) -> Result<(), Fail> {
     let sum = "class A { static int f() { return ";
     let clause = "class A { /*@ requires ";
     let method = "; @*/ static void f() { } }";
-    for (front, signs, count, middle, back, written) in [
-        (body, (b'{', b'}'), 130, "", " }", "refused NotBuilt\n"),
+    for (front, signs, count, middle, back, status, written) in [
+        (
+            body,
+            (b'{', b'}'),
+            130,
+            "",
+            " }",
+            0,
+            "accepted: classes 1, methods 1, clauses 0\n",
+        ),
         (
             body,
             (b'{', b'}'),
             131,
             "",
             " }",
+            3,
             "refused TooDeep at 1:177\n",
         ),
-        (sum, (b'(', b')'), 127, "1", "; } }", "refused NotBuilt\n"),
+        (sum, (b'(', b')'), 127, "1", "; } }", 3, "refused NoMain\n"),
         (
             sum,
             (b'(', b')'),
             128,
             "1",
             "; } }",
+            3,
             "refused TooDeep at 1:163\n",
         ),
         (
@@ -408,7 +317,8 @@ fn refuses_deep_sources(rt: HostRuntime) -> Result<(), Fail> {
             128,
             "true",
             method,
-            "refused NotBuilt\n",
+            3,
+            "refused NoMain\n",
         ),
         (
             clause,
@@ -416,6 +326,7 @@ fn refuses_deep_sources(rt: HostRuntime) -> Result<(), Fail> {
             129,
             "true",
             method,
+            3,
             "refused TooDeep at 1:153\n",
         ),
         (
@@ -424,11 +335,12 @@ fn refuses_deep_sources(rt: HostRuntime) -> Result<(), Fail> {
             500_000,
             "1",
             "; } }",
+            3,
             "refused TooDeep at 1:163\n",
         ),
     ] {
         let source = nested(rt.alloc(), front, signs, count, middle, back)?;
-        check(&rt, &SERIAL, source.as_slice(), (0, 0), 3, written)?;
+        check(&rt, &["check"], source.as_slice(), (0, 0), status, written)?;
     }
     Ok(())
 }
@@ -460,10 +372,10 @@ fn refuses_a_source_that_is_too_long(rt: HostRuntime) -> Result<(), Fail> {
 fn answers_other_words_with_the_usage(rt: HostRuntime) -> Result<(), Fail> {
     check(&rt, &[], SEVEN.as_bytes(), (0, 0), 2, USAGE)?;
     check(&rt, &["run"], SEVEN.as_bytes(), (0, 0), 2, USAGE)?;
-    check(&rt, &["check"], SEVEN.as_bytes(), (0, 0), 2, USAGE)?;
+    check(&rt, &["check", "check"], SEVEN.as_bytes(), (0, 0), 2, USAGE)?;
     check(
         &rt,
-        &["run", "--serial", "1"],
+        &["run", "--serial", "one"],
         SEVEN.as_bytes(),
         (0, 0),
         2,

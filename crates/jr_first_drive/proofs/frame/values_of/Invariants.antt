@@ -1,6 +1,0 @@
-use Rattle.std.proofs.Common.{◌≡◌, take}
-use Rattle.jr_first_drive.proofs.frame.values_of.Given as goal
-
--- the values so far
-abbrev pub invariant-loop-value : goal.invariant-loop-value
-invariant-loop-value l = l.list.items ≡ take l.value-index l.values

@@ -1,4 +1,0 @@
-pub mod Heap
-pub mod Reached
-pub mod Stacks
-pub mod Walk

@@ -1,4 +1,0 @@
-pub mod Along
-pub mod Event
-pub mod FirstForm
-pub mod Programs

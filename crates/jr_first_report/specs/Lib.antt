@@ -1,4 +1,0 @@
-pub mod Fits
-pub mod Passing
-pub mod Refusals
-pub mod Report
